@@ -1,0 +1,9 @@
+use Rattle.std.proofs.Common.{◌≡◌, ◌++◌, string_bytes}
+use Rattle.std.specs.Str.Iter.{chars_rest}
+use Rattle.wiki_model.specs.Bytes.{skip_spaces}
+use Rattle.wiki_model.specs.Titles.{raised}
+use Rattle.wiki_titles.proofs.Words.{named}
+use Rattle.wiki_titles.proofs.clean.push_name.Given as goal
+
+abbrev pub invariant-loop-letter : goal.invariant-loop-letter
+invariant-loop-letter l = string_bytes l.made ++ named l.bare (chars_rest l.letter-iterator) ≡ string_bytes l.fn.made ++ raised (skip_spaces l.fn.name)

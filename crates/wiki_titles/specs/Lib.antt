@@ -1,0 +1,4 @@
+pub mod Cleaning
+pub mod Readings
+pub mod Order
+pub mod Clients

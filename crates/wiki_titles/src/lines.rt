@@ -1,0 +1,49 @@
+// The ends of lines.
+ghost use Rattle.std.specs.Prelude.{◌≡◌, ◌≤◌, ◌++◌, length, IfOk, OnOk};
+ghost use Rattle.std.specs.String.{string_bytes};
+ghost use Rattle.wiki_model.specs.Titles.{with_line_feeds};
+ghost use Rattle.wiki_titles.specs.Cleaning.{ended};
+
+use std::alloc::{AllocError, Global};
+
+// How long the text is once its lines end with line feeds.
+pub(crate) fn length_with_line_feeds(bytes: &[u8]) -> usize
+    ensures { result ≡ length (with_line_feeds bytes.now) }
+{
+    let mut length = 0;
+    let mut previous = 0;
+    for byte in bytes {
+        if *byte != b'\n' || previous != b'\r' {
+            length += 1;
+        }
+        previous = *byte;
+    }
+    length
+}
+
+// A letter behind what there is, where a carriage return may stand right before it.
+fn push_ended(made: &mut String, returned: bool, letter: char) -> Result<(), AllocError>
+    ensures { OnOk result (string_bytes made.new ≡ string_bytes made.old ++ ended returned letter) }
+{
+    if letter == '\r' {
+        made.push('\n')
+    } else if letter == '\n' && returned {
+        Ok(())
+    } else {
+        made.push(letter)
+    }
+}
+
+// The text with line feeds at the ends of its lines; it has this many bytes.
+#[tactic(auto, using(crate::proofs::Ends::ends_step))]
+pub(crate) fn with_line_feeds(alloc: Global, text: &str, length: usize) -> Result<String, AllocError>
+    ensures { IfOk result (λ made. string_bytes made ≡ with_line_feeds text.now) }
+{
+    let mut made = String::with_capacity(alloc, length)?;
+    let mut returned = false;
+    for letter in text.chars() {
+        push_ended(&mut made, returned, letter)?;
+        returned = letter == '\r';
+    }
+    Ok(made)
+}

@@ -1,0 +1,96 @@
+// Texts of pages.
+ghost use Rattle.std.specs.Prelude.{◌≡◌, ◌≤◌, ℕ, List, length, bytes_eq};
+ghost use Rattle.std.specs.Cmp as Cmp;
+ghost use Rattle.std.specs.Cmp.Lexicographic.{nat_list_eq_equiv};
+ghost use Rattle.wiki_model.specs.Titles.{with_line_feeds};
+ghost use Rattle.wiki_titles.specs.Readings.{ReadsText};
+
+use crate::lines::{length_with_line_feeds, with_line_feeds};
+use std::alloc::{AllocError, Global};
+use std::marker::Model;
+use std::sync::ArcStr;
+
+/// Why a text is not taken.
+#[derive(Clone, Copy, Debug, PartialEq, Eq)]
+pub enum TextFault {
+    /// It has over 65,536 bytes once its lines end with line feeds: this many.
+    TooLong { bytes: u64 },
+    /// Memory was refused.
+    Memory,
+}
+
+impl From<AllocError> for TextFault {
+    ghost use Rattle.std.specs.Prelude.{◌≡◌};
+    ghost use Rattle.wiki_titles.specs.declared.text.TextFault.TheVariants.{Memory};
+    ghost from_gives = { λ _ fault. fault ≡ Memory };
+
+    fn from(_error: AllocError) -> TextFault {
+        TextFault::Memory
+    }
+}
+
+/// The text of a page, at most 65,536 bytes. Its clones share the bytes.
+#[derive(Debug, Drop)]
+pub struct Text {
+    text: ArcStr<Global>,
+}
+
+impl Model for Text {
+    ghost use Rattle.std.specs.Prelude.{◌≤◌, ℕ, List, length};
+    ghost use Rattle.std.specs.Arc.{arc_str_bytes};
+    ghost Value = { List ℕ };
+
+    ghost view = { λ t. arc_str_bytes t.text };
+
+    ghost invariant = { λ t. length (arc_str_bytes t.text) ≤ 65_536 };
+}
+
+impl Text {
+    /// The text with a line feed for each CR LF and each lone CR. Two passes.
+    pub fn parse(alloc: Global, text: &str) -> Result<Text, TextFault>
+        ensures { ReadsText result (with_line_feeds text.now) }
+    {
+        let length = length_with_line_feeds(text.as_bytes());
+        if 65_536 < length {
+            return Err(TextFault::TooLong {
+                bytes: length as u64,
+            });
+        }
+        let made = with_line_feeds(alloc, text, length)?;
+        Ok(Text {
+            text: ArcStr::from_string(made)?,
+        })
+    }
+
+    /// The text's bytes.
+    pub fn text(&self) -> &str
+        ensures value { result.now ≡ self.now }
+        ensures short { length self.now ≤ 65_536 }
+    {
+        self.text.as_str()
+    }
+}
+
+impl Clone for Text {
+    ghost is_clone = { λ text copy. copy ≡ text };
+
+    fn clone(&self) -> Result<Text, AllocError> {
+        Ok(Text {
+            text: self.text.clone()?,
+        })
+    }
+}
+
+impl PartialEq for Text {
+    ghost eq = { bytes_eq };
+
+    ghost laws = { Cmp.partial_equiv_from_equiv nat_list_eq_equiv };
+
+    fn eq(&self, other: &Self) -> bool {
+        self.text() == other.text()
+    }
+}
+
+impl Eq for Text {
+    ghost laws = { nat_list_eq_equiv };
+}
