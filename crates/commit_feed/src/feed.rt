@@ -1,0 +1,114 @@
+// The list of entries.
+use crate::places::{count_by, entry_at, first_of, last_by, last_on};
+use crate::{Entry, Writes};
+use farm_base::{Memory, Moment};
+use std::alloc::Global;
+use std::marker::Model;
+use wiki_titles::{ClientId, Title, Token};
+
+/// The history, as the list of its entries, numbered from 1. Contracts see the list.
+///
+/// `latest`, `by_token` and `writes_of` go over the whole list.
+#[derive(Debug, Drop)]
+pub struct Feed {
+    entries: Vec<Entry>,
+}
+
+impl Model for Feed {
+    ghost use Rattle.std.specs.Prelude.{List, map};
+    ghost use Rattle.wiki_model.specs.History.{Entry, IsHistory};
+    ghost use Rattle.commit_feed.specs.Shown.{entry_of};
+
+    ghost Value = { List Entry };
+
+    ghost view = { λ f. map entry_of f.entries.items };
+
+    ghost invariant = { λ f. IsHistory (map entry_of f.entries.items) };
+}
+
+impl Feed {
+    ghost use Rattle.std.specs.Prelude.{◌≡◌, ℕ, ◌+◌, ◌^◌, ◌<◌, List, [], ◌∷◌, ◌++◌, ◌==◌, length, option_map, IfOk, OnOk, OnErr};
+    ghost use Rattle.std.specs.Option.{option_copied};
+    ghost use Rattle.wiki_model.specs.History.{IsHistory, entry_at, page, number_of, commit_with_token, count, own, stamp_at};
+    ghost use Rattle.commit_feed.specs.Shown.{entry_of};
+
+    /// An empty history. It takes no memory.
+    pub fn new(alloc: Global) -> Self
+        ensures { result ≡ [] }
+    {
+        Feed {
+            entries: Vec::new(alloc),
+        }
+    }
+
+    /// The number of entries. Besides, the list is a history at every moment.
+    pub fn len(&self) -> u64
+        ensures len { result ≡ length self.now }
+        ensures small { result < 2 ^ 63 }
+        ensures history { IsHistory self.now }
+    {
+        self.entries.len() as u64
+    }
+
+    pub fn is_empty(&self) -> bool
+        ensures { result ≡ (length self.now == 0) }
+    {
+        self.entries.is_empty()
+    }
+
+    /// Entry `n`, counted from 1.
+    pub fn entry(&self, n: u64) -> Option<&Entry>
+        ensures { option_map entry_of (option_copied result) ≡ entry_at self.now n }
+    {
+        if n == 0 {
+            return None;
+        }
+        entry_at(&self.entries, n)
+    }
+
+    /// Appends an entry that may follow, and answers its number. Without memory the list stays.
+    pub fn push(&mut self, entry: Entry) -> Result<u64, Memory>
+        requires { IsHistory (self.old ++ entry_of entry ∷ []) }
+        ensures number { IfOk result (λ n. n ≡ length self.old + 1) }
+        ensures ok { OnOk result (self.new ≡ self.old ++ entry_of entry ∷ []) }
+        ensures err { OnErr result (self.new ≡ self.old) }
+    {
+        match self.entries.push(entry) {
+            Ok(()) => Ok(self.entries.len() as u64),
+            Err(_) => Err(Memory),
+        }
+    }
+
+    /// The number of the last commit on the title among the first `upto` entries.
+    pub fn latest(&self, title: &Title, upto: u64) -> Option<u64>
+        ensures { result ≡ number_of (page self.now upto title.now) }
+    {
+        let (front, _) = self.entries.split_at(self.entries.len().min(upto as usize));
+        last_on(front, title)
+    }
+
+    /// The number of the client's commit with this token.
+    pub fn by_token(&self, client: &ClientId, token: &Token) -> Option<u64>
+        ensures { result ≡ number_of (commit_with_token self.now client.now token.now) }
+    {
+        first_of(&self.entries, client, token)
+    }
+
+    /// What the client has committed.
+    pub fn writes_of(&self, client: &ClientId) -> Writes
+        ensures count { result.count ≡ count self.now client.now }
+        ensures last { result.last ≡ own self.now client.now }
+        ensures stamp { result.stamp ≡ stamp_at self.now (own self.now client.now) }
+    {
+        let last = last_by(&self.entries, client).unwrap_or(0);
+        let stamp = match self.entry(last) {
+            Some(entry) => entry.stamp(),
+            None => Moment(0),
+        };
+        Writes {
+            count: count_by(&self.entries, client),
+            last,
+            stamp,
+        }
+    }
+}
