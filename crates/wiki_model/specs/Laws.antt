@@ -9,11 +9,13 @@ use Rattle.wiki_model.specs.declared.PutNote.{PutNote}
 use Rattle.wiki_model.specs.declared.SetRule.{SetRule}
 use Rattle.wiki_model.specs.declared.SetRule.TheVariants as rule
 use Rattle.wiki_model.specs.declared.Readings.{Readings}
+use Rattle.wiki_model.specs.declared.Choice.{Choice}
 use Rattle.wiki_model.specs.Bytes.{Bytes}
 use Rattle.wiki_model.specs.Titles.{Title}
 use Rattle.wiki_model.specs.History.{Entry, Commit, Edit, IsHistory, stamp_at, stamp_of, commit_of, commit_at, commits_on, current_revision, commit_for, page_text}
 use Rattle.wiki_model.specs.Html.{html}
 use Rattle.wiki_model.specs.Limits.{greatest_moment, hold_off, life_whole, life_lagged}
+use Rattle.wiki_model.specs.Balance.{Row, IsChoice}
 use Rattle.wiki_model.specs.Cache.{CacheMap, Cached, Found, Hit, Interim, IsCache, IsEmptyCache, Puts, set_rule, look, found, is_held}
 use Rattle.wiki_model.specs.World.{World, Setting, OpenView, Floor, Snapshot, Stored, Job, site, moment, request_at, at_readings, without_request}
 use Rattle.wiki_model.specs.World.Event.{Received, Kept}
@@ -188,6 +190,10 @@ NeedsReachOwnEdits = (w : World) (view : OpenView) → IsHistory w.history → H
 -- a snapshot for a need reaches it
 abbrev pub SnapshotsReachTheirNeed : Type 0
 SnapshotsReachTheirNeed = (w : World) (r : Region) (title : Title) (need word : ℕ) (s : Snapshot) → IsSnapshot w r title need word s → need ≤ s.upto
+
+-- the choice of a replica is determined by its rows, need and word
+abbrev pub ChoicesAreOne : Type 0
+ChoicesAreOne = (rows : List Row) (need word : ℕ) (a b : Choice) → IsChoice rows need word a → IsChoice rows need word b → a ≡ b
 
 -- what a store of positions finds stands on as moments grow, over an entry that the region has not heard, and where it hears a position, however late or often
 abbrev pub EntriesKeepPositions : Type 0

@@ -1,7 +1,7 @@
 //! The laws of the definitions, each as the contract of a function that does nothing, so that its proof is asked for.
 //! They say nothing of the program until a contract cites the definitions that they speak of.
 
-ghost use Rattle.wiki_model.specs.Laws.{RunsStayConsistent, RunsOnlyGrow, EntriesKeepHistories, RevisionsAreCounted, UndecidedEditsAreNext, PagesOfPrefixesStay, PurgesAreOfTheirTitle, EmptyCachesStand, GrowthKeepsCaches, PurgesKeepCaches, PutsKeepCaches, StoresKeepCaches, RoundsKeepCaches, OneWorkerRoundsStand, LooksGoOn, HitsAreNotStale, HitsAreSound, InterimAnswersAreSound, StoredPagesAreSound, MissingPagesAreSound, WholeValuesAreTrue, LaggedValuesAreTrue, NotesAreAllowed, NeedsReachOwnEdits, SnapshotsReachTheirNeed, MomentsKeepPositions, EntriesKeepPositions, HearingKeepsPositions, SharedHitsAreSound, SharedInterimAnswersAreSound, SharedNotesAreAllowed};
+ghost use Rattle.wiki_model.specs.Laws.{RunsStayConsistent, RunsOnlyGrow, EntriesKeepHistories, RevisionsAreCounted, UndecidedEditsAreNext, PagesOfPrefixesStay, PurgesAreOfTheirTitle, EmptyCachesStand, GrowthKeepsCaches, PurgesKeepCaches, PutsKeepCaches, StoresKeepCaches, RoundsKeepCaches, OneWorkerRoundsStand, LooksGoOn, HitsAreNotStale, HitsAreSound, InterimAnswersAreSound, StoredPagesAreSound, MissingPagesAreSound, WholeValuesAreTrue, LaggedValuesAreTrue, NotesAreAllowed, NeedsReachOwnEdits, SnapshotsReachTheirNeed, ChoicesAreOne, MomentsKeepPositions, EntriesKeepPositions, HearingKeepsPositions, SharedHitsAreSound, SharedInterimAnswersAreSound, SharedNotesAreAllowed};
 
 /// The last world of every run from an opening is consistent.
 pub fn runs_stay_consistent()
@@ -150,6 +150,12 @@ pub fn needs_reach_own_edits()
 /// A snapshot for a need reaches it.
 pub fn snapshots_reach_their_need()
     ensures { SnapshotsReachTheirNeed }
+{
+}
+
+/// The choice of a replica is determined by its rows, need and word.
+pub fn choices_are_one()
+    ensures { ChoicesAreOne }
 {
 }
 
