@@ -10,7 +10,7 @@ use Rattle.wiki_model.specs.declared.SetRule.{SetRule}
 use Rattle.wiki_model.specs.declared.SetRule.TheVariants as rule
 use Rattle.wiki_model.specs.declared.Readings.{Readings}
 use Rattle.wiki_model.specs.declared.Choice.{Choice}
-use Rattle.wiki_model.specs.Bytes.{Bytes}
+use Rattle.wiki_model.specs.Bytes.{Bytes, IsIn}
 use Rattle.wiki_model.specs.Titles.{Title}
 use Rattle.wiki_model.specs.History.{Entry, Commit, Edit, IsHistory, stamp_at, stamp_of, commit_of, commit_at, commits_on, current_revision, commit_for, page_text}
 use Rattle.wiki_model.specs.Html.{html}
@@ -24,13 +24,14 @@ use Rattle.wiki_model.specs.Sessions.{lag_of, floor_of}
 use Rattle.wiki_model.specs.HoldOff.{IsIssued, IsPurgeOf, IsSettled, IsNotStale}
 use Rattle.wiki_model.specs.Values.{IsTrueValue}
 use Rattle.wiki_model.specs.Reuse.{IsQuiet, IsNote, main_life, interim_life}
-use Rattle.wiki_model.specs.Answers.{Answer, edit_answer, IsSnapshot, IsSoundFromCache, IsPutNote, IsValueOf, HasMaker}
+use Rattle.wiki_model.specs.Answers.{Answer, PageAnswer, edit_answer, IsSnapshot, IsSoundFromCache, IsPutNote, IsValueOf, HasMaker}
 use Rattle.wiki_model.specs.Answers.Answer.{Page, NoPage}
 use Rattle.wiki_model.specs.Steps.{Step, StoreRow, kept}
-use Rattle.wiki_model.specs.Rounds.{RoundRow, IsProperJob, rounded, batch}
+use Rattle.wiki_model.specs.Rounds.{RoundRow, AnswersJobs, IsProperJob, rounded, batch}
 use Rattle.wiki_model.specs.Runs.{Turn, One, IsRun, opening}
 use Rattle.wiki_model.specs.Consistent.{IsConsistent, IsOpened, HearsYoung, IsParked}
 use Rattle.wiki_model.specs.Caches.{CacheStands, IsTrueIn}
+use Rattle.wiki_model.specs.Promised.{AnswersOpenView, AnswersJob}
 use Rattle.wiki_model.specs.Positions.{Finder, PositionsStand, TakesPosition}
 use Rattle.wiki_model.specs.Changes.{Goes, IsGrown, IsEvent, HasMore, IsNext}
 use Rattle.wiki_model.specs.CacheCalls.{TakesPurge, IsNoteOf, IsMarkedBy, value_of_snapshot, ask_of, answer_from, answer_of_replica, look_answer, looked}
@@ -39,6 +40,17 @@ use Rattle.wiki_model.specs.OneWorker.{DoesJobs}
 use Rattle.wiki_model.specs.Shares.{IsLoaded, IsMainTrue}
 
 -- Of every run
+
+-- each page that a step of a run answers is as promised, in the world after the step's readings; so is each page of a round
+abbrev pub PagesArePromised : Type 0
+PagesArePromised =
+    (start : World) (turns : List Turn) (turn : Turn) (w : World) (p : PageAnswer) → IsRun start (turn ∷ turns) w → turn.reply ≡ One (Some (Page p))
+    → (v : World) × IsRun start turns v × AnswersOpenView (at_readings turn.at v) p
+
+abbrev pub RoundPagesArePromised : Type 0
+RoundPagesArePromised =
+    (v with_all : World) (r : Region) (earlier jobs : List Job) (answers : List Answer) (p : PageAnswer)
+    → AnswersJobs v with_all r earlier jobs answers → IsIn (Page p) answers → AnswersJob v r jobs p
 
 -- the last world of each run from an opening is consistent
 abbrev pub RunsStayConsistent : Type 0
@@ -226,10 +238,10 @@ SharedHitsAreSound =
 -- an interim answer is sound, and a note interim or held is allowed, where the cache that is given back has at least what the seat loaded
 abbrev pub SharedInterimAnswersAreSound : Type 0
 SharedInterimAnswersAreSound =
-    (v with_all : World) (r : Region) (new : CacheMap Bytes) (title : Title) (own : Floor) (ho floor template message : ℕ) (value shown : Cached Bytes) (main : Option (Cached Bytes))
+    (v with_all : World) (r : Region) (new : CacheMap Bytes) (title : Title) (own : Floor) (period floor template message : ℕ) (value shown : Cached Bytes) (main : Option (Cached Bytes))
     → IsConsistent v → CacheStands with_all r new → moment r with_all ≡ moment r v → floor ≤ new.floor title → template ≤ new.template_check → message ≤ new.message_check
     → IsTrueIn v r title value → value.lagged ≡ false → HasMaker with_all r title value → own.own ≤ own.need
-    → found ho floor (max template message) (moment r v) (ask_of v own.need) main (Some value) ≡ Interim shown
+    → found period floor (max template message) (moment r v) (ask_of v own.need) main (Some value) ≡ Interim shown
     → IsSoundFromCache v with_all r title own (answer_from title via.Interim shown)
 
 abbrev pub SharedNotesAreAllowed : Type 0

@@ -1,4 +1,5 @@
 -- What a seat of a cache that several workers share may count on while others work beside it.
+-- From this alone its answers are sound.
 use Rattle.std.specs.Prelude.{ℕ, ◌≡◌, ◌⊎◌, ◌+◌, ◌<◌, ◌≤◌}
 use Rattle.wiki_model.specs.declared.Region.{Region}
 use Rattle.wiki_model.specs.Bytes.{Bytes}
