@@ -1,4 +1,5 @@
 -- The set rule, the hold-off of a key, and what is fresh and shown, at their edges.
+-- Each value is computed by the prover.
 use Rattle.std.specs.Prelude.{ℕ, ◌≡◌, false, true, Some, None, refl}
 use Rattle.wiki_model.specs.declared.SetRule.TheVariants as rule
 use Rattle.wiki_model.specs.declared.Stale.TheVariants as stale

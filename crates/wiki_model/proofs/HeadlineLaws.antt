@@ -1,4 +1,5 @@
 -- The laws that join the others: a run goes on by a look, and a hit is neither unsettled nor stale.
+-- They are what the contracts of a farm's steps cite.
 use Rattle.std.proofs.Common.{◌≡◌, ℕ, ◌≤◌, List, [], ◌∷◌, Bool, true, false, Some, None, Option, refl, sym, ◌∙◌, ap, arith, subst, append-nil}
 use Rattle.std.specs.List.{AllByRecursion}
 use Rattle.wiki_model.specs.declared.Region.{Region}

@@ -1,4 +1,5 @@
--- Each page that a run answers is as promised: by its row, and in a round by the row of its job.
+-- Each page that a run answers is as promised, by the row of its step.
+-- In a round it is so by the row of its job.
 use Rattle.std.proofs.Common.{◌≡◌, ℕ, List, [], ◌∷◌, ◌++◌, Bool, true, false, cond, ◌⊎◌, Some, None, Option, refl, sym, ◌∙◌, ap, subst, inl, inr}
 use Rattle.wiki_model.specs.declared.Region.{Region}
 use Rattle.wiki_model.specs.declared.Origin.{Origin}

@@ -1,4 +1,5 @@
--- Edits, sessions, replicas and steps, at their edges.
+-- Edits, sessions, replicas, openings and steps, at their edges.
+-- Each value is computed by the prover.
 use Rattle.std.specs.Prelude.{ℕ, ◌≡◌, ◌+◌, List, [], ◌∷◌, ◌++◌, false, true, Some, None, codes, refl}
 use Rattle.wiki_model.specs.declared.Region.{Region}
 use Rattle.wiki_model.specs.declared.Region.TheVariants.{Home, West}

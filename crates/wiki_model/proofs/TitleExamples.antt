@@ -1,4 +1,5 @@
 -- Titles and their paths, tokens, clients and ends of lines, at their edges.
+-- Each value is computed by the prover.
 use Rattle.std.specs.Prelude.{◌≡◌, [], ◌∷◌, ◌++◌, false, true, Ok, Err, codes, refl, replicate}
 use Rattle.wiki_model.specs.declared.Class.TheVariants.{Plain, Template, Message}
 use Rattle.wiki_model.specs.Titles.{title_of, url_of, with_line_feeds, class_of, is_token, is_client}
