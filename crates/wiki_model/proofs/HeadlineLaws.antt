@@ -1,15 +1,15 @@
 -- The laws that join the others: a run goes on by a look, and a hit is neither unsettled nor stale.
 -- They are what the contracts of a farm's steps cite.
-use Rattle.std.proofs.Common.{◌≡◌, ℕ, ◌≤◌, List, [], ◌∷◌, Bool, true, false, Some, None, Option, refl, sym, ◌∙◌, ap, arith, subst, append-nil}
+use Rattle.std.proofs.Common.{◌≡◌, ℕ, ◌≤◌, List, [], ◌∷◌, Bool, false, Some, Option, refl, sym, ap, arith, subst, append-nil}
 use Rattle.std.specs.List.{AllByRecursion}
 use Rattle.wiki_model.specs.declared.Region.{Region}
 use Rattle.wiki_model.specs.declared.Region.TheVariants.{Home, West}
 use Rattle.wiki_model.specs.declared.Readings.{Readings}
 use Rattle.wiki_model.specs.Bytes.{Bytes}
-use Rattle.wiki_model.specs.Titles.{Title, Client}
+use Rattle.wiki_model.specs.Titles.{Title}
 use Rattle.wiki_model.specs.History.{Entry, commits_by}
 use Rattle.wiki_model.specs.Cache.{CacheMap, Cached, Found, Hit, Interim, Missed, look}
-use Rattle.wiki_model.specs.World.{World, Setting, OpenView, Floor, Request, Job, site, moment, request_at, at_readings}
+use Rattle.wiki_model.specs.World.{World, Setting, OpenView, Floor, Job, site, moment, request_at, at_readings}
 use Rattle.wiki_model.specs.World.Request.{ViewWaited}
 use Rattle.wiki_model.specs.HoldOff.{IsSettled, IsNotStale}
 use Rattle.wiki_model.specs.Answers.{Answer}

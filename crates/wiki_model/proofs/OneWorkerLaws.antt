@@ -1,6 +1,6 @@
 -- A round of one worker, done job by job, meets its row, and the cache then stands for the world after the round.
 -- By induction over the jobs, with a second world in which each earlier job is an event of its own.
-use Rattle.std.proofs.Common.{◌≡◌, ◌≢◌, ℕ, zero, suc, ◌+◌, ◌-◌, ◌<◌, ◌≤◌, ◌⊎◌, List, [], ◌∷◌, ◌++◌, Bool, true, false, ◌||◌, Some, None, Option, option_map, IfSome, refl, sym, ◌∙◌, ap, arith, subst, inl, inr}
+use Rattle.std.proofs.Common.{◌≡◌, ◌≢◌, ℕ, zero, suc, ◌+◌, ◌-◌, ◌≤◌, ◌⊎◌, List, [], ◌∷◌, ◌++◌, Bool, true, false, ◌||◌, Some, None, Option, option_map, refl, sym, ◌∙◌, ap, arith, subst, inl, inr}
 use Rattle.std.specs.Prelude.{filter_map}
 use Rattle.std.specs.List.{AllByRecursion, cons_option}
 use Rattle.wiki_model.specs.declared.Region.{Region}
@@ -14,33 +14,32 @@ use Rattle.wiki_model.specs.Titles.{Title, Text}
 use Rattle.wiki_model.specs.History.{Entry, is_shared_title, page_text}
 use Rattle.wiki_model.specs.Html.{html, html_of_text}
 use Rattle.wiki_model.specs.Limits.{hold_off}
-use Rattle.wiki_model.specs.Cache.{CacheMap, Cached, Found, Hit, Interim, Missed, IsCache, Puts, Places, Ask, set_rule, look}
-use Rattle.wiki_model.specs.World.{World, Setting, Site, site, moment, Event, Stored, Batch, Job, Snapshot, Floor, Message, message_at, Body, with_event}
+use Rattle.wiki_model.specs.Cache.{CacheMap, Cached, Found, Hit, Interim, Missed, IsCache, Places, Ask, set_rule, look}
+use Rattle.wiki_model.specs.World.{World, Setting, site, moment, Event, Stored, Batch, Job, Snapshot, Floor, Message, message_at, with_event}
 use Rattle.wiki_model.specs.World.Event.{Received, Kept, Rounded}
 use Rattle.wiki_model.specs.World.Job.{ViewJob, ReceiptJob}
-use Rattle.wiki_model.specs.World.Body.{Purge, Position}
 use Rattle.wiki_model.specs.HoldOff.{HasReceipt, IsIssued}
 use Rattle.wiki_model.specs.Values.{IsTrueValue}
-use Rattle.wiki_model.specs.Reuse.{IsQuiet, IsNote, MayRaise, LeavesTitle, LastStored, MustHit, MustShowInterim, matters, main_life, interim_life}
-use Rattle.wiki_model.specs.Answers.{Answer, PageAnswer, IsSnapshot, IsCached, IsFromCache, IsSoundFromCache, IsSoundFromReplica, HasRaised, HasMaker, HasMark, IsValueOf, WasMadeBy, ChosenReplica, is_lagged_choice}
-use Rattle.wiki_model.specs.Answers.Answer.{Page, NoPage, NoMemory}
+use Rattle.wiki_model.specs.Reuse.{IsQuiet, IsNote, LeavesTitle, LastStored, matters, main_life, interim_life}
+use Rattle.wiki_model.specs.Answers.{Answer, PageAnswer, IsSnapshot, IsCached, IsFromCache, IsSoundFromCache, IsSoundFromReplica, HasRaised, HasMaker, HasMark, WasMadeBy, ChosenReplica}
+use Rattle.wiki_model.specs.Answers.Answer.{Page, NoPage}
 use Rattle.wiki_model.specs.Steps.{stored}
 use Rattle.wiki_model.specs.Rounds.{RoundRow, AnswersJobs, IsJobAnswer, IsForcedJob, ComesFrom, JobLeaves, OfMessage, OfPurge, IsProperJob, rounded, received, batch, stored_by, floor_for}
 use Rattle.wiki_model.specs.Caches.{CacheStands, IsTrueIn, IsRaisedBy, class_check}
 use Rattle.wiki_model.specs.Consistent.{IsConsistent, IsPurge, event_at}
 use Rattle.wiki_model.specs.Changes.{IsEvent}
-use Rattle.wiki_model.specs.CacheCalls.{TakesPurge, IsNoteOf, IsMarkedBy, ask_of, answer_from, look_answer, answer_of_replica, value_of_snapshot}
+use Rattle.wiki_model.specs.CacheCalls.{TakesPurge, IsNoteOf, IsMarkedBy, ask_of, answer_from, answer_of_replica, value_of_snapshot}
 use Rattle.wiki_model.specs.OneWorker.{TakesReceipt, PutsValue, KeepsPage, Renders, AnswersFound, AnswersView, DoesJobs}
 use Rattle.wiki_model.proofs.Purged.{issued-once}
 use Rattle.wiki_model.proofs.ConsistentLaws.{event-keeps}
 use Rattle.wiki_model.proofs.ChoiceLaws.{snapshot-reaches}
-use Rattle.wiki_model.proofs.RowLaws.{IsReceivable, site-new, proper-jobs, received-moment, received-still}
+use Rattle.wiki_model.proofs.RowLaws.{IsReceivable, proper-jobs, received-moment, received-still}
 use Rattle.wiki_model.proofs.RoundLaws.{received-history, received-setting, received-cases, named-received}
 use Rattle.wiki_model.proofs.FrameLaws.{event-is, if_map, last-cases}
 use Rattle.wiki_model.proofs.PurgeLaws.{purge-stands}
 use Rattle.wiki_model.proofs.StoreLaws.{put-stands, no_put-stands, put-note, whole-true, lagged-true}
 use Rattle.wiki_model.proofs.LookLaws.{hit-sound, interim-sound, must-hit, must-show_interim}
-use Rattle.wiki_model.proofs.JobLaws.{IsDuring, in-append, receipt-during, must-hit-during, must-show-during, sound-during}
+use Rattle.wiki_model.proofs.JobLaws.{IsDuring, must-hit-during, must-show-during, sound-during}
 
 -- What the round's world says of what happened during it.
 record IsGathered (u w : World) (r : Region) : Type 0 where
@@ -351,9 +350,10 @@ from-cache : (v w : World) (r : Region) (earlier : List Job) (title : Title) (ne
     → ((value : Cached Bytes) → look old title (moment r v) (ask_of v need) ≡ Interim value → ComesFrom Origin.Interim value.upto (Page p))
     → IsViewed v w r earlier title need word answer u new
 from-cache v w r earlier title need word u old new p answer fits m sound is same hit interim = record {
-  right = subst (IsRight v w r earlier title need word) (sym is)
-      (inl (sound-during v u w r m.events m.during fits m.times title (floor_for need) p (sound-gathered u w r title (floor_for need) p m.gathered sound)),
-      λ one all. forced-as v w r earlier title need u old (Page p) m hit interim all);
+  right = subst (IsRight v w r earlier title need word) (sym is) (
+    inl (sound-during v u w r m.events m.during fits m.times title (floor_for need) p (sound-gathered u w r title (floor_for need) p m.gathered sound)),
+    λ one all. forced-as v w r earlier title need u old (Page p) m hit interim all,
+  );
   next = u;
   midway = no-event v w r earlier (ViewJob title need word) u old new m same;
   still = λ purge of at there. there;
@@ -381,12 +381,19 @@ viewed v w r earlier title need word answer u old new fits m is_cache rendered (
     render : (why : Rattle.wiki_model.specs.declared.Cause.Cause) → look old title (moment r v) (ask_of v need) ≡ Missed why → (s : Snapshot) → IsSnapshot v r title need word s → (o : Option Bytes) → html v.history s.upto title v.markup ≡ o
         → Renders v r title s answer old new o → IsViewed v w r earlier title need word answer u new
     render why e s shot None none (is, same) = record {
-      right = subst (IsRight v w r earlier title need word) (sym is) ((s, shot, record {
-        within = (fits.sites r).applied shot.replica.0 s.upto shot.replica.2;
-        none = no-page v.history s.upto title v.markup none;
-        reaches = record { need = snapshot-reaches v r title need word s shot; own = omega arith };
-        of_snapshot = refl;
-      }), λ one all. not_forced why e (NoPage s.upto) all);
+      right = subst (IsRight v w r earlier title need word) (sym is) (
+        (
+          s,
+          shot,
+          record {
+            within = (fits.sites r).applied shot.replica.0 s.upto shot.replica.2;
+            none = no-page v.history s.upto title v.markup none;
+            reaches = record { need = snapshot-reaches v r title need word s shot; own = omega arith };
+            of_snapshot = refl;
+          },
+        ),
+        λ one all. not_forced why e (NoPage s.upto) all,
+      );
       next = u;
       midway = no-event v w r earlier (ViewJob title need word) u old new m same;
       still = λ purge of at there. there;
@@ -398,9 +405,18 @@ viewed v w r earlier title need word answer u old new fits m is_cache rendered (
         let no_age : s.since - s.since ≡ 0 = omega arith in
         record {
           right = subst (IsRight v w r earlier title need word) (sym is) (
-            inr (s, shot, rendered-sound v r title need word s n page i fits shot chosen shown, n, refl,
-            inl (subst (λ a. IsNote (IsQuiet w r title) (set_rule s.lag a s.pending w.setting.bounds.read_lag) n) (sym no_age)
-            (subst (λ (x : Setting). IsNote (IsQuiet w r title) (set_rule s.lag 0 s.pending x.bounds.read_lag) n) (sym (m.gathered.setting ∙ m.during.setting)) kept.allowed), kept.not_memory)),
+            inr (
+              s,
+              shot,
+              rendered-sound v r title need word s n page i fits shot chosen shown,
+              n,
+              refl,
+              inl (
+                subst (λ a. IsNote (IsQuiet w r title) (set_rule s.lag a s.pending w.setting.bounds.read_lag) n) (sym no_age)
+                    (subst (λ (x : Setting). IsNote (IsQuiet w r title) (set_rule s.lag 0 s.pending x.bounds.read_lag) n) (sym (m.gathered.setting ∙ m.during.setting)) kept.allowed),
+                kept.not_memory,
+              ),
+            ),
             λ one all. not_forced why e (Page p) all,
           );
           next = with_event r event u;
@@ -592,6 +608,8 @@ one_worker-round v r jobs answers old new fits proper stands does =
     named all purge of there is = subst (IsIn (Received purge of (moment r v))) (sym (event-is r (Rounded (batch v r jobs false answers)) (received r jobs v)).events) (inr (named-received r jobs v all purge of there is))
 
     rendered : (p : PageAnswer) (note : PutNote) → IsIn (Page p) answers → p.put ≡ Some note → WasMadeBy (rounded r jobs false answers v) r (stored v r p note)
-    rendered p note there put = inr (batch v r jobs false answers,
-        subst (IsIn (Rounded (batch v r jobs false answers))) (sym (event-is r (Rounded (batch v r jobs false answers)) (received r jobs v)).events) (inl refl),
-        rendered-in v r answers p (stored v r p note) there (ap (λ o. Rattle.wiki_model.specs.Rounds.stored_note v r p o) put))
+    rendered p note there put = inr (
+      batch v r jobs false answers,
+      subst (IsIn (Rounded (batch v r jobs false answers))) (sym (event-is r (Rounded (batch v r jobs false answers)) (received r jobs v)).events) (inl refl),
+      rendered-in v r answers p (stored v r p note) there (ap (λ o. Rattle.wiki_model.specs.Rounds.stored_note v r p o) put),
+    )

@@ -1,6 +1,6 @@
 -- Each page that a run answers is as promised, by the row of its step.
 -- In a round it is so by the row of its job.
-use Rattle.std.proofs.Common.{◌≡◌, ℕ, List, [], ◌∷◌, ◌++◌, Bool, true, false, cond, ◌⊎◌, Some, None, Option, refl, sym, ◌∙◌, ap, subst, inl, inr}
+use Rattle.std.proofs.Common.{◌≡◌, ℕ, List, [], ◌∷◌, ◌++◌, Bool, true, false, cond, Some, None, Option, refl, sym, ◌∙◌, ap, subst, inl, inr}
 use Rattle.wiki_model.specs.declared.Region.{Region}
 use Rattle.wiki_model.specs.declared.Origin.{Origin}
 use Rattle.wiki_model.specs.declared.Origin.TheVariants as via
@@ -16,8 +16,8 @@ use Rattle.wiki_model.specs.Answers.{Answer, PageAnswer, edit_answer, edit_answe
 use Rattle.wiki_model.specs.Answers.Answer.{Page}
 use Rattle.wiki_model.specs.Steps.{Step, Row, AtPoint, BeginRow, CommitRow, WaitRow, LookRow, SnapRow, StoreRow, arrived_edit, begun_edit, arrived_view, waited_view, looked_view, snapped_view, waited, gives_up, lag_answer, dropped}
 use Rattle.wiki_model.specs.Rounds.{AnswersJobs, IsJobAnswer, floor_for}
-use Rattle.wiki_model.specs.Runs.{Turn, One, Many, Reply, Takes, Leads, IsRun, with_faults}
-use Rattle.wiki_model.specs.Promised.{IsPromised, IsOpen, AnswersOpenView, AnswersJob}
+use Rattle.wiki_model.specs.Runs.{Turn, One, Many, Reply, Takes, IsRun, with_faults}
+use Rattle.wiki_model.specs.Promised.{IsPromised, AnswersOpenView, AnswersJob}
 
 -- the history decides no edit by a page
 token-no_page : (edit : Edit) (n : Numbered) (p : PageAnswer) → same_token edit n ≡ Page p → ⊥

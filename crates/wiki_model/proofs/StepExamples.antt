@@ -1,21 +1,18 @@
 -- Edits, sessions, replicas, openings and steps, at their edges.
 -- Each value is computed by the prover.
-use Rattle.std.specs.Prelude.{ℕ, ◌≡◌, ◌+◌, List, [], ◌∷◌, ◌++◌, false, true, Some, None, codes, refl}
-use Rattle.wiki_model.specs.declared.Region.{Region}
+use Rattle.std.specs.Prelude.{ℕ, ◌≡◌, List, [], ◌∷◌, false, true, Some, None, codes, refl}
 use Rattle.wiki_model.specs.declared.Region.TheVariants.{Home, West}
-use Rattle.wiki_model.specs.declared.Readings.{Readings}
 use Rattle.wiki_model.specs.declared.Behind.TheVariants as by
 use Rattle.wiki_model.specs.Limits.{default_bounds}
-use Rattle.wiki_model.specs.Titles.{Title}
-use Rattle.wiki_model.specs.History.{Edit, Commit, Entry, Beat, Committed, Numbered, commits, own, count, current_revision, page_text, entry_at, stamp_at, commit_for, touches}
-use Rattle.wiki_model.specs.Answers.{edit_answer, saved}
-use Rattle.wiki_model.specs.Answers.Answer.{EditSaved, Conflict, TokenUsed, StoreFault, Miss, Page}
+use Rattle.wiki_model.specs.History.{Edit, Entry, Beat, Committed, Numbered, own, count, current_revision, page_text, entry_at, stamp_at, commit_for, touches}
+use Rattle.wiki_model.specs.Answers.{edit_answer}
+use Rattle.wiki_model.specs.Answers.Answer.{EditSaved, Conflict, TokenUsed, StoreFault, Miss}
 use Rattle.wiki_model.specs.Balance.{Row, is_eligible, shares}
 use Rattle.wiki_model.specs.World.{World, Setting, View, OpenView, Cookie, Message, cut, at_readings, drop_at, moment}
 use Rattle.wiki_model.specs.World.Body.{Purge}
 use Rattle.wiki_model.specs.Sessions.{known_of, unknown, is_live, lag_behind, counts_all}
 use Rattle.wiki_model.specs.Steps.{gives_up, is_after, region_of, reach}
-use Rattle.wiki_model.specs.Runs.{opening, young, Turn, One}
+use Rattle.wiki_model.specs.Runs.{opening, young, One}
 use Rattle.wiki_model.specs.Sequences.{ends}
 use Rattle.wiki_model.specs.Serving.{is_past, room_beside}
 

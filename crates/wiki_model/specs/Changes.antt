@@ -1,6 +1,6 @@
 -- How one world follows another: what only grows, and what may have happened to a region's cache in between.
 -- The laws of caches speak of these in place of single steps.
-use Rattle.std.specs.Prelude.{ℕ, ◌≡◌, ◌+◌, ◌≤◌, List, ◌∷◌, ◌++◌, length, None}
+use Rattle.std.specs.Prelude.{◌≡◌, ◌+◌, ◌≤◌, List, ◌∷◌, ◌++◌, length, None}
 use Rattle.wiki_model.specs.declared.Region.{Region}
 use Rattle.wiki_model.specs.Bytes.{IsIn}
 use Rattle.wiki_model.specs.History.{Entry, Commit, commits_on, commits_by, commit_with_token}

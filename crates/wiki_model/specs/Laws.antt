@@ -1,6 +1,6 @@
 -- What is proved of these definitions: the laws that carry the promise.
 -- Each is a statement about every run and every cache, and stands in the contract of a function of `src/laws.rt`, so that its proof is asked for.
-use Rattle.std.specs.Prelude.{ℕ, ◌≡◌, ◌⊎◌, ◌+◌, ◌-◌, ◌≤◌, max, Bool, true, false, List, [], ◌∷◌, ◌++◌, length, Option, Some, None}
+use Rattle.std.specs.Prelude.{ℕ, ◌≡◌, ◌-◌, ◌≤◌, max, Bool, true, false, List, [], ◌∷◌, ◌++◌, length, Option, Some, None}
 use Rattle.std.specs.List.{AllByRecursion}
 use Rattle.wiki_model.specs.declared.Region.{Region}
 use Rattle.wiki_model.specs.declared.Origin.TheVariants as via
@@ -16,7 +16,7 @@ use Rattle.wiki_model.specs.History.{Entry, Commit, Edit, IsHistory, stamp_at, s
 use Rattle.wiki_model.specs.Html.{html}
 use Rattle.wiki_model.specs.Limits.{greatest_moment, hold_off, life_whole, life_lagged}
 use Rattle.wiki_model.specs.Balance.{Row, IsChoice}
-use Rattle.wiki_model.specs.Cache.{CacheMap, Cached, Found, Hit, Interim, IsCache, IsEmptyCache, Puts, set_rule, look, found, is_held}
+use Rattle.wiki_model.specs.Cache.{CacheMap, Cached, Hit, Interim, IsCache, IsEmptyCache, Puts, set_rule, look, found, is_held}
 use Rattle.wiki_model.specs.World.{World, Setting, OpenView, Floor, Snapshot, Stored, Job, site, moment, request_at, at_readings, without_request}
 use Rattle.wiki_model.specs.World.Event.{Received, Kept}
 use Rattle.wiki_model.specs.World.Request.{ViewWaited}

@@ -1,6 +1,6 @@
 -- The main claim in one definition: what holds of a page that a run answers.
 -- It is the page of the prefix that it names; it reaches what its session may not miss; and a hit that is not marked lagged lacks no commit whose purge was received within the bounds.
-use Rattle.std.specs.Prelude.{ℕ, ◌≡◌, ◌⊎◌, ◌≤◌, false, List, Some}
+use Rattle.std.specs.Prelude.{ℕ, ◌≡◌, ◌⊎◌, false, List, Some}
 use Rattle.wiki_model.specs.declared.Region.{Region}
 use Rattle.wiki_model.specs.declared.Origin.TheVariants as via
 use Rattle.wiki_model.specs.Bytes.{IsIn}
