@@ -6,7 +6,8 @@ use Rattle.wiki_model.specs.History.{Entry, Edit, Commit, Numbered, Committed, I
 use Rattle.wiki_model.specs.Answers.{Answer, Conflict, edit_answer, edit_answer_of}
 use Rattle.commit_feed.proofs.Found.{number_some, number_none, with_token_at, page_at, few_revisions}
 use Rattle.wiki_model.proofs.HistoryLaws.{length-push}
-use Rattle.wiki_model.proofs.HistoryGrowth.{history-push, commit-next, IsNext, stamp-after}
+use Rattle.wiki_model.specs.Changes.{IsNext}
+use Rattle.wiki_model.proofs.HistoryGrowth.{history-push, commit-next, stamp-after}
 use Rattle.std.proofs.lemmas.Bool.Decides.{nat_tests}
 use Rattle.farm_core.specs.Kept.{IsKept}
 use Rattle.farm_core.specs.Steps.{next_commit}

@@ -1,7 +1,8 @@
 -- A beat at moment 0, and one commit behind it, are a history.
 use Rattle.std.proofs.Common.{◌≡◌, ℕ, zero, suc, ◌≤◌, List, [], ◌∷◌, ◌++◌, Some, None, refl, subst, arith}
 use Rattle.wiki_model.specs.History.{Entry, Beat, Committed, Commit, IsHistory, commit_at, stamp_at}
-use Rattle.wiki_model.proofs.HistoryGrowth.{history-push, IsNext}
+use Rattle.wiki_model.specs.Changes.{IsNext}
+use Rattle.wiki_model.proofs.HistoryGrowth.{history-push}
 
 stamp_none : (n : ℕ) → stamp_at [] n ≡ 0
 stamp_none zero = refl
