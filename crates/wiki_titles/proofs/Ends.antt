@@ -1,11 +1,11 @@
 -- The ends of lines, letter by letter.
-use Rattle.std.proofs.Common.{◌≡◌, ℕ, ◌<◌, ◌≤◌, ◌≢◌, Bool, true, false, ◌&&◌, ◌||◌, ◌==◌, if◌then◌else◌, List, [], ◌∷◌, ◌++◌, length, refl, sym, ap, ◌∙◌, subst, ⊎_elim, arith, append-nil}
+use Rattle.std.proofs.Common.{◌≡◌, ℕ, ◌≤◌, Bool, true, false, ◌||◌, ◌==◌, [], ◌∷◌, ◌++◌, refl, ap, ◌∙◌, subst, ⊎_elim, arith}
 use Rattle.std.proofs.lemmas.Bool.{cases_Bool, or_parts, or_from, eqb-true}
 use Rattle.std.proofs.lemmas.Bool.Decides.{nat_tests}
 use Rattle.std.proofs.lemmas.Str.{encode_ascii}
 use Rattle.std.specs.Char.{encode_utf8}
 use Rattle.wiki_model.specs.Bytes.{Bytes}
-use Rattle.wiki_model.specs.Titles.{with_line_feeds, line_feeds_after}
+use Rattle.wiki_model.specs.Titles.{line_feeds_after}
 use Rattle.wiki_titles.specs.Cleaning.{ended}
 use Rattle.wiki_titles.proofs.Letters.{Lacks, letter_lacks, letter_bytes}
 
@@ -18,13 +18,6 @@ ends false text = line_feeds_after 0 text
 other_before : (c : ℕ) (text : Bytes) → (c == 13) ≡ false → line_feeds_after c text ≡ line_feeds_after 0 text
 other_before c [] h = refl
 other_before c (d ∷ text) h = rw h refl
-
-pub ends_none : (text : Bytes) → ends false text ≡ with_line_feeds text
-ends_none text = refl
-
-pub ends_end : (returned : Bool) → ends returned [] ≡ []
-ends_end true = refl
-ends_end false = refl
 
 at_return : (returned : Bool) (letter : ℕ) (rest : Bytes) → (letter == 13) ≡ true → ends returned (encode_utf8 letter ++ rest) ≡ ended returned letter ++ ends (letter == 13) rest
 at_return true letter rest h = rw (eqb-true letter 13 h, encode_ascii 13 (omega arith)) refl

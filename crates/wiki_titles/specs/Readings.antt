@@ -1,5 +1,5 @@
 -- What each reader answers, against what its text is.
-use Rattle.std.specs.Prelude.{ℕ, ◌≡◌, ◌<◌, ◌≤◌, Bool, true, false, if◌then◌else◌, length, Option, Some, None, Result, Ok, Err}
+use Rattle.std.specs.Prelude.{◌≡◌, ◌<◌, ◌≤◌, true, false, if◌then◌else◌, length, Option, Some, None, Result, Ok, Err}
 use Rattle.wiki_titles.specs.declared.title.TitleFault.{TitleFault}
 use Rattle.wiki_titles.specs.declared.title.TitleFault.TheVariants.{Empty as EmptyTitle, TooLong as LongTitle, BadCharacter as BadInTitle, Memory as TitleMemory}
 use Rattle.wiki_titles.specs.declared.token.TokenFault.{TokenFault}

@@ -1,5 +1,5 @@
 // Client ids.
-ghost use Rattle.std.specs.Prelude.{◌≡◌, ◌<◌, ◌^◌, ◌∷◌, ◌++◌, ℕ, List, IsTrue, option_map, length};
+ghost use Rattle.std.specs.Prelude.{◌≡◌, ◌<◌, ◌∷◌, ◌++◌, ℕ, List, IsTrue, length};
 ghost use Rattle.md5.specs.Md5.{md5};
 ghost use Rattle.wiki_model.specs.Bytes.{line_feed};
 ghost use Rattle.wiki_model.specs.Script.{client_number, hex, low_hex};
@@ -20,6 +20,7 @@ pub struct ClientId {
 impl Model for ClientId {
     ghost use Rattle.std.specs.Prelude.{ℕ, List, IsTrue};
     ghost use Rattle.wiki_model.specs.Titles.{is_client};
+
     ghost Value = { List ℕ };
 
     ghost view = { λ c. c.digits };

@@ -1,5 +1,5 @@
 // The kinds of bytes.
-ghost use Rattle.std.specs.Prelude.{◌≡◌, ℕ, ◌<◌, Bool, ◌==◌, ◌||◌, IsTrue, codes, length};
+ghost use Rattle.std.specs.Prelude.{◌≡◌, ◌<◌, ◌==◌, ◌||◌, IsTrue, codes};
 ghost use Rattle.std.specs.List.{list_all, list_any};
 ghost use Rattle.wiki_model.specs.Titles.{is_letter, is_digit, in_range, is_bad, is_token, is_client};
 

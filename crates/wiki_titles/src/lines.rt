@@ -1,5 +1,5 @@
 // The ends of lines.
-ghost use Rattle.std.specs.Prelude.{◌≡◌, ◌≤◌, ◌++◌, length, IfOk, OnOk};
+ghost use Rattle.std.specs.Prelude.{◌≡◌, ◌++◌, length, IfOk, OnOk};
 ghost use Rattle.std.specs.String.{string_bytes};
 ghost use Rattle.wiki_model.specs.Titles.{with_line_feeds};
 ghost use Rattle.wiki_titles.specs.Cleaning.{ended};
@@ -35,8 +35,11 @@ fn push_ended(made: &mut String, returned: bool, letter: char) -> Result<(), All
 }
 
 // The text with line feeds at the ends of its lines; it has this many bytes.
-#[tactic(auto, using(crate::proofs::Ends::ends_step))]
-pub(crate) fn with_line_feeds(alloc: Global, text: &str, length: usize) -> Result<String, AllocError>
+pub(crate) fn with_line_feeds(
+    alloc: Global,
+    text: &str,
+    length: usize,
+) -> Result<String, AllocError>
     ensures { IfOk result (λ made. string_bytes made ≡ with_line_feeds text.now) }
 {
     let mut made = String::with_capacity(alloc, length)?;

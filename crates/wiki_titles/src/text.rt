@@ -22,6 +22,7 @@ pub enum TextFault {
 impl From<AllocError> for TextFault {
     ghost use Rattle.std.specs.Prelude.{◌≡◌};
     ghost use Rattle.wiki_titles.specs.declared.text.TextFault.TheVariants.{Memory};
+
     ghost from_gives = { λ _ fault. fault ≡ Memory };
 
     fn from(_error: AllocError) -> TextFault {
@@ -38,6 +39,7 @@ pub struct Text {
 impl Model for Text {
     ghost use Rattle.std.specs.Prelude.{◌≤◌, ℕ, List, length};
     ghost use Rattle.std.specs.Arc.{arc_str_bytes};
+
     ghost Value = { List ℕ };
 
     ghost view = { λ t. arc_str_bytes t.text };

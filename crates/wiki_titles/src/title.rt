@@ -1,5 +1,5 @@
 // Titles.
-ghost use Rattle.std.specs.Prelude.{◌≡◌, ◌≤◌, ◌<◌, ℕ, Bool, ◌==◌, ◌&&◌, ◌||◌, List, length, Some, None, IfOk, refl, bytes_eq, position};
+ghost use Rattle.std.specs.Prelude.{◌≡◌, ◌≤◌, ◌<◌, ℕ, ◌==◌, ◌&&◌, ◌||◌, List, length, Some, None, IfOk, refl, bytes_eq, position};
 ghost use Rattle.std.specs.String.{string_bytes};
 ghost use Rattle.std.specs.Cmp as Cmp;
 ghost use Rattle.std.specs.Cmp.Lexicographic.{nat_list_eq_equiv, nat_list_cmp_total, texts_po, texts_ties};
@@ -32,6 +32,7 @@ pub enum TitleFault {
 impl From<AllocError> for TitleFault {
     ghost use Rattle.std.specs.Prelude.{◌≡◌};
     ghost use Rattle.wiki_titles.specs.declared.title.TitleFault.TheVariants.{Memory};
+
     ghost from_gives = { λ _ fault. fault ≡ Memory };
 
     fn from(_error: AllocError) -> TitleFault {
@@ -49,6 +50,7 @@ impl Model for Title {
     ghost use Rattle.std.specs.Prelude.{◌≤◌, ℕ, List, length};
     ghost use Rattle.std.specs.String.{string_bytes};
     ghost use Rattle.wiki_titles.specs.Readings.{IsTitle};
+
     ghost Value = { List ℕ };
 
     ghost view = { λ t. string_bytes t.text };

@@ -24,6 +24,7 @@ pub enum TokenFault {
 impl From<AllocError> for TokenFault {
     ghost use Rattle.std.specs.Prelude.{◌≡◌};
     ghost use Rattle.wiki_titles.specs.declared.token.TokenFault.TheVariants.{Memory};
+
     ghost from_gives = { λ _ fault. fault ≡ Memory };
 
     fn from(_error: AllocError) -> TokenFault {
@@ -41,6 +42,7 @@ impl Model for Token {
     ghost use Rattle.std.specs.Prelude.{ℕ, List, IsTrue};
     ghost use Rattle.std.specs.String.{string_bytes};
     ghost use Rattle.wiki_model.specs.Titles.{is_token};
+
     ghost Value = { List ℕ };
 
     ghost view = { λ t. string_bytes t.text };

@@ -1,8 +1,7 @@
-use Rattle.std.proofs.Common.{rules, ◌≡◌, false, sym, ap, ◌∙◌}
+use Rattle.std.proofs.Common.{rules, ◌≡◌, false}
 use Rattle.std.specs.Str.Iter.{chars_rest}
 use Rattle.std.specs.String.{string_bytes}
-use Rattle.wiki_model.specs.Titles.{with_class}
-use Rattle.wiki_titles.proofs.Words.{is_gap, added, added_none, added_letter}
+use Rattle.wiki_titles.proofs.Words.{is_gap, added_none, added_letter}
 use Rattle.wiki_titles.proofs.clean.spaced.Goals as goal
 
 pub loop-letter-init : goal.loop-letter-init

@@ -1,4 +1,4 @@
-use Rattle.std.proofs.Common.{◌≡◌, IsTrue, subst, sym}
+use Rattle.std.proofs.Common.{IsTrue, subst, sym}
 use Rattle.wiki_model.specs.Titles.{is_client}
 use Rattle.wiki_titles.proofs.Digits.{hex_is_client}
 use Rattle.wiki_titles.proofs.client.numbered.Goals as goal

@@ -1,5 +1,4 @@
-use Rattle.std.proofs.Common.{rules, ◌≡◌, ◌<◌, ◌∙◌, ◌%◌, length, sym}
-use Rattle.wiki_model.specs.Script.{low_hex}
+use Rattle.std.proofs.Common.{rules, ◌∙◌}
 use Rattle.wiki_titles.proofs.Digits.{hex_more}
 use Rattle.wiki_titles.proofs.client.write_hex.Goals as goal
 

@@ -1,4 +1,4 @@
-use Rattle.std.proofs.Common.{rules, ◌≡◌, ◌≤◌, false, length, None, arith, sym, ap, ◌∙◌}
+use Rattle.std.proofs.Common.{rules, ◌≡◌, ◌≤◌, false, length, None}
 use Rattle.std.specs.String.{string_bytes}
 use Rattle.std.specs.List.{position}
 use Rattle.wiki_model.specs.Titles.{has_no_name, is_bad}
