@@ -7,7 +7,7 @@ pub mod answer;
 mod edits;
 pub mod farm;
 pub mod page;
-mod render;
+pub mod render;
 
 pub use answer::{Answer, EditAsk, PageAnswer, SavedNote};
 pub use farm::Farm;

@@ -2,6 +2,7 @@
 ghost use Rattle.std.specs.Prelude.{◌≡◌, ◌++◌, IfOk, OnOk};
 ghost use Rattle.wiki_model.specs.Html.{escaped, escaped_byte};
 ghost use Rattle.farm_core.specs.Steps.{between, head, paragraph, page_bytes};
+ghost use Rattle.farm_core.specs.PlainPages.{PlainPagesAreTheModels};
 
 use crate::Page;
 use farm_base::Memory;
@@ -85,3 +86,8 @@ pub fn render(alloc: Global, title: &Title, text: &Text) -> Result<Page, Memory>
 {
     page_of(alloc, title.text().as_bytes(), text.text().as_bytes())
 }
+
+/// The page that is written here is the one that the model gives, for each text of letters and digits.
+pub fn plain_pages_are_the_models()
+    ensures { PlainPagesAreTheModels }
+{}
