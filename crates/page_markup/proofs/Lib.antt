@@ -1,0 +1,5 @@
+pub mod Cuts
+pub mod Firsts
+pub mod LineKinds
+pub mod Names
+pub mod Places
