@@ -3,3 +3,4 @@ pub mod Firsts
 pub mod LineKinds
 pub mod Names
 pub mod Places
+pub mod Trees

@@ -14,14 +14,22 @@ mod spaces;
 ghost use Rattle.std.specs.Prelude.{◌≡◌, ◌≤◌, length, IfOk};
 ghost use Rattle.std.specs.String.{string_bytes};
 ghost use Rattle.wiki_model.specs.Bytes.{replaced, line_feed, space};
-ghost use Rattle.page_markup.specs.Tree.{inline_of};
+ghost use Rattle.page_markup.specs.Tree.{inline_of, tree_of};
 
 use farm_base::Memory;
 use std::alloc::Global;
+use wiki_titles::Text;
 
 pub use blocks::{Block, BlockKind, Tree};
 pub use finder::find_from;
 pub use inline::{Inline, Mark};
+
+/// The tree of the text.
+pub fn parse(alloc: Global, text: &Text) -> Result<Tree, Memory>
+    ensures { IfOk result (λ tree. tree ≡ tree_of text.now) }
+{
+    blocks::read_tree(alloc, text.text()).map_err(|_| Memory)
+}
 
 /// The text with its marks, for a text of at most 65,536 bytes.
 pub fn read_inline(alloc: Global, text: &str) -> Result<Inline, Memory>

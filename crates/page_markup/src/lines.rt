@@ -1,10 +1,10 @@
 // The lines of a text, and what each of them is.
-ghost use Rattle.std.specs.Prelude.{◌≡◌, ◌≤◌, ◌<◌, ◌-◌, ◌+◌, ◌∷◌, ℕ, List, length, drop, take, reverse, codes, MatchOption, true, false, ◌==◌};
+ghost use Rattle.std.specs.Prelude.{◌≡◌, ◌≤◌, ◌<◌, ◌-◌, ◌+◌, ◌∷◌, ℕ, List, length, drop, take, reverse, codes, MatchOption, true, false, ◌==◌, get_or};
 ghost use Rattle.std.specs.Str.{IsCharBoundary};
 ghost use Rattle.std.specs.List.{list_all};
 ghost use Rattle.wiki_model.specs.Bytes.{line_feed, space, run_of, trimmed, skip_spaces};
 ghost use Rattle.wiki_model.specs.Html.{heading_level, is_heading, middle_of};
-ghost use Rattle.page_markup.specs.Lines.{IsLine};
+ghost use Rattle.page_markup.specs.Lines.{IsLine, IsShort};
 ghost use Rattle.page_markup.specs.Marks.{next_place};
 
 use crate::finder;
@@ -21,7 +21,8 @@ pub enum Line<'a> {
 
 /// Without the spaces at the front.
 fn skip_front(text: &str) -> &str
-    ensures { result.now ≡ skip_spaces text.now }
+    ensures value { result.now ≡ skip_spaces text.now }
+    ensures len { length result.now ≤ length text.now }
 {
     let mut rest = text;
     while let Some(shorter) = rest.strip_prefix(' ') {
@@ -32,7 +33,8 @@ fn skip_front(text: &str) -> &str
 
 /// Without the spaces at the end.
 fn skip_back(text: &str) -> &str
-    ensures { result.now ≡ reverse (skip_spaces (reverse text.now)) }
+    ensures value { result.now ≡ reverse (skip_spaces (reverse text.now)) }
+    ensures len { length result.now ≤ length text.now }
 {
     let mut rest = text;
     while let Some(shorter) = rest.strip_suffix(' ') {
@@ -42,7 +44,8 @@ fn skip_back(text: &str) -> &str
 }
 
 fn trimmed(text: &str) -> &str
-    ensures { result.now ≡ trimmed text.now }
+    ensures value { result.now ≡ trimmed text.now }
+    ensures len { length result.now ≤ length text.now }
 {
     skip_back(skip_front(text))
 }
@@ -96,7 +99,8 @@ fn is_signs(line: &str) -> bool
 fn middle(line: &str, level: usize) -> &str
     requires level { level ≡ heading_level line.now }
     requires some { 0 < level }
-    ensures { result.now ≡ middle_of level line.now }
+    ensures value { result.now ≡ middle_of level line.now }
+    ensures len { length result.now ≤ length line.now }
 {
     if level + level >= line.len() {
         return "";
@@ -107,7 +111,7 @@ fn middle(line: &str, level: usize) -> &str
 /// The level and the middle of a heading, if the line is one.
 #[tactic(auto, using(crate::proofs::LineKinds::no_level, crate::proofs::LineKinds::all_signs, crate::proofs::LineKinds::empty_middle, crate::proofs::LineKinds::heading_is))]
 fn heading(line: &str) -> Option<(usize, &str)>
-    ensures { MatchOption result (is_heading line.now ≡ false) (λ found. (is_heading line.now ≡ true) × (found.0 ≡ heading_level line.now) × (found.0 ≤ 6) × (found.1.now ≡ middle_of (heading_level line.now) line.now)) }
+    ensures { MatchOption result (is_heading line.now ≡ false) (λ found. (is_heading line.now ≡ true) × (found.0 ≡ heading_level line.now) × (found.0 ≤ 6) × (found.1.now ≡ middle_of (heading_level line.now) line.now) × (length found.1.now ≤ length line.now)) }
 {
     let level = heading_level(line.as_bytes());
     if level == 0 || is_signs(line) {
@@ -122,8 +126,9 @@ fn heading(line: &str) -> Option<(usize, &str)>
 
 /// What the line is.
 #[tactic(auto, using(crate::proofs::LineKinds::blank_line, crate::proofs::LineKinds::heading_line, crate::proofs::LineKinds::item_line, crate::proofs::LineKinds::plain_line))]
-pub fn line_of(line: &str) -> Line<'_>
-    ensures { IsLine line.now result }
+fn line_of(line: &str) -> Line<'_>
+    ensures line { IsLine line.now result }
+    ensures short { IsShort (length line.now) result }
 {
     if is_blank(line) {
         return Line::Blank;
@@ -135,4 +140,20 @@ pub fn line_of(line: &str) -> Line<'_>
         Some(rest) => Line::Item { text: trimmed(rest) },
         None => Line::Plain,
     }
+}
+
+/// The line that begins at the place, and where it ends.
+pub fn line_at(text: &str, at: usize) -> (Line<'_>, usize)
+    requires within { at ≤ length text.now }
+    requires cut { IsCharBoundary text.now at }
+    ensures end { result.1 ≡ next_place (codes "\n") at text.now }
+    ensures within { result.1 ≤ length text.now }
+    ensures feed { result.1 < length text.now → get_or text.now result.1 0 ≡ line_feed }
+    ensures cut { IsCharBoundary text.now result.1 }
+    ensures next { result.1 < length text.now → IsCharBoundary text.now (result.1 + 1) }
+    ensures line { IsLine (take (result.1 - at) (drop at text.now)) result.0 }
+    ensures short { IsShort (length text.now) result.0 }
+{
+    let end = finder::find_from(text, b"\n", at);
+    (line_of(part(text, at, end)), end)
 }
