@@ -233,7 +233,7 @@ joined text from end next a b l f =
     let x = end - from in
     let y = next - (end + 1) in
     let len : length s ≡ length text - from = length-drop from text in
-    let there : get_or s x 0 ≡ line_feed = get_or-drop text from x ∙ ap (λ k. get_or text k 0) (let z : from + x ≡ end = omega (arith, a) in z) ∙ f in
+    let there : get_or s x 0 ≡ line_feed = get_or-drop from text x 0 ∙ ap (λ k. get_or text k 0) (let z : from + x ≡ end = omega (arith, a) in z) ∙ f in
     let rest : drop (suc x) s ≡ drop (end + 1) text = drop_drop (suc x) from text ∙ ap (λ k. drop k text) (let z : from + suc x ≡ end + 1 = omega (arith, a) in z) in
     ap (λ k. take k s) (let z : next - from ≡ x + suc y = omega (arith, a, b) in z)
     ∙ take_on s x y (omega (arith, a, l, len))

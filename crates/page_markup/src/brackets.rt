@@ -73,7 +73,7 @@ fn before_bar(inner: &str) -> &str
     part(inner, 0, bar)
 }
 
-#[tactic(auto, using(crate::proofs::Names::link_refused))]
+#[tactic(auto, using(crate::proofs::Refused::link_refused))]
 fn read_target(alloc: Global, inner: &str) -> Result<Option<Title>, AllocError>
     ensures { IfOk result (λ title. title ≡ link_target inner.now) }
 {
@@ -91,7 +91,7 @@ fn is_template(title: &Title) -> bool
     title.text().as_bytes().starts_with(b"Template:")
 }
 
-#[tactic(auto, using(crate::proofs::Names::template_refused))]
+#[tactic(auto, using(crate::proofs::Refused::template_refused))]
 pub fn read_template(alloc: Global, inner: &str) -> Result<Option<Title>, AllocError>
     requires { length inner.now ≤ 512 }
     ensures { IfOk result (λ title. title ≡ template_named inner.now) }
