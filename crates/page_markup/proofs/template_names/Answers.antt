@@ -1,0 +1,6 @@
+use Rattle.std.proofs.Common.{◌≡◌, subst}
+use Rattle.page_markup.specs.Names.{AreNames, names_from}
+use Rattle.page_markup.proofs.template_names.Goals as goal
+
+pub returns-in-Ok : goal.returns-in-Ok
+returns-in-Ok c = subst (λ t. AreNames (names_from t) c.in-Ok.names.items) c.text.ensures.value c.in-Ok.ensures

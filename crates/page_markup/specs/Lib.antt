@@ -1,0 +1,5 @@
+pub mod Lines
+pub mod Marks
+pub mod Names
+pub mod Runs
+pub mod Tree

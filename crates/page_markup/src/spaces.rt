@@ -1,0 +1,47 @@
+// A text in one line.
+ghost use Rattle.std.specs.Prelude.{◌≡◌, ◌≤◌, ◌<◌, ◌-◌, ◌++◌, ℕ, List, IfOk, length, drop, take};
+ghost use Rattle.std.specs.String.{string_bytes};
+ghost use Rattle.std.specs.Str.{IsCharBoundary};
+ghost use Rattle.wiki_model.specs.Bytes.{replaced, line_feed, space};
+
+use crate::finder;
+use std::alloc::{AllocError, Global};
+
+/// The text between two places.
+pub fn part(text: &str, from: usize, to: usize) -> &str
+    requires order { from ≤ to }
+    requires first { IsCharBoundary text.now from }
+    requires last { IsCharBoundary text.now to }
+    ensures { result.now ≡ take (to - from) (drop from text.now) }
+{
+    &text[from..to]
+}
+
+/// Adds the line that begins at the place, and a space where another follows. Answers where that one begins.
+fn push_line(made: &mut String, text: &str, at: usize) -> Result<usize, AllocError>
+    requires within { at < length text.now }
+    requires cut { IsCharBoundary text.now at }
+    ensures past { IfOk result (λ next. at < next) }
+    ensures cut { IfOk result (λ next. next < length text.now → IsCharBoundary text.now next) }
+    ensures spaced { IfOk result (λ next. string_bytes made.new ++ replaced line_feed space (drop next text.now) ≡ string_bytes made.old ++ replaced line_feed space (drop at text.now)) }
+{
+    let end = finder::find_from(text, b"\n", at);
+    made.push_str(part(text, at, end))?;
+    if end >= text.len() {
+        return Ok(end + 1);
+    }
+    made.push_str(" ")?;
+    Ok(end + 1)
+}
+
+/// The text with each line feed as a space.
+pub fn with_spaces(alloc: Global, text: &str) -> Result<String, AllocError>
+    ensures { IfOk result (λ made. string_bytes made ≡ replaced line_feed space text.now) }
+{
+    let mut made = String::new(alloc);
+    let mut at = 0;
+    while at < text.len() {
+        at = push_line(&mut made, text, at)?;
+    }
+    Ok(made)
+}
