@@ -11,7 +11,7 @@ use Rattle.wiki_model.specs.World.{World, Setting, OpenView, Floor, Snapshot, Re
 use Rattle.wiki_model.specs.World.Asked.{AskedView, AskedEdit}
 use Rattle.wiki_model.specs.World.Body.{Purge, Position}
 use Rattle.wiki_model.specs.World.Job.{ViewJob, ReceiptJob}
-use Rattle.wiki_model.specs.World.Request.{EditArrived, EditBegun, ViewArrived, ViewWaited, ViewLooked, ViewSnapped}
+use Rattle.wiki_model.specs.World.Request.{EditBegun, ViewWaited, ViewLooked, ViewSnapped}
 use Rattle.wiki_model.specs.Sessions.{Lag, lag_of, floor_of}
 use Rattle.wiki_model.specs.Answers.{Answer, edit_answer}
 use Rattle.wiki_model.specs.Steps.{Step, Row, AtPoint, IsRefused, IsOutOfMemory, Decided, BeginRow, CommitRow, WaitRow, LookRow, SnapRow, StoreRow, ApplyRow, CarryRow, arrived_edit, begun_edit, arrived_view, waited_view, looked_view, snapped_view, request_of, begun, appended, purged_again, next_entry, next_commit, is_late, waited, gives_up, lag_answer, kept, reach, carried, dropped, closed_if}

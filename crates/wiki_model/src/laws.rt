@@ -16,8 +16,7 @@ pub fn round_pages_are_promised()
 /// The floor of an open view was given by a turn of its run, at which the view was not behind.
 pub fn floors_are_given()
     ensures { FloorsAreGiven }
-{
-}
+{}
 
 /// The last world of every run from an opening is consistent.
 pub fn runs_stay_consistent()
