@@ -18,6 +18,7 @@ use Rattle.wiki_model.specs.Steps.{Step, Row, AtPoint, BeginRow, CommitRow, Wait
 use Rattle.wiki_model.specs.Rounds.{AnswersJobs, IsJobAnswer, floor_for}
 use Rattle.wiki_model.specs.Runs.{Turn, One, Many, Reply, Takes, IsRun, with_faults}
 use Rattle.wiki_model.specs.Promised.{IsPromised, AnswersOpenView, AnswersJob}
+use Rattle.wiki_model.proofs.RowLaws.{was-waited}
 
 -- the history decides no edit by a page
 token-no_page : (edit : Edit) (n : Numbered) (p : PageAnswer) → same_token edit n ≡ Page p → ⊥
@@ -52,15 +53,6 @@ from-cache v w r title floor p is = record { prefix = is.prefix; reaches = is.re
 
 from-replica : (v : World) (r : Region) (title : Title) (floor : Floor) (s : Snapshot) (p : PageAnswer) → IsSoundFromReplica v title floor s p → IsPromised v r title floor p
 from-replica v r title floor s p is = record { prefix = is.prefix; reaches = is.reaches; not_stale = λ hit whole. let no : via.Replica is.origin.0 ≡ via.Hit = sym is.origin.2 ∙ hit in let none : ⊥ = cc in absurd none }
-
-was-waited : (o : Option Request) (p : OpenView × Floor) → waited_view o ≡ Some p → o ≡ Some (ViewWaited p.0 p.1)
-was-waited None p e = let no : ⊥ = cc in absurd no
-was-waited (Some (ViewWaited view floor)) p e = let same : (let x : OpenView × Floor = (view, floor) in x) ≡ p = cc in ap (λ (q : OpenView × Floor). Some (ViewWaited q.0 q.1)) same
-was-waited (Some (EditArrived edit)) p e = let no : ⊥ = cc in absurd no
-was-waited (Some (EditBegun edit purge)) p e = let no : ⊥ = cc in absurd no
-was-waited (Some (ViewArrived view)) p e = let no : ⊥ = cc in absurd no
-was-waited (Some (ViewLooked view floor)) p e = let no : ⊥ = cc in absurd no
-was-waited (Some (ViewSnapped view floor s)) p e = let no : ⊥ = cc in absurd no
 
 was-snapped : (o : Option Request) (p : OpenView × Floor × Snapshot) → snapped_view o ≡ Some p → o ≡ Some (ViewSnapped p.0 p.1 p.2)
 was-snapped None p e = let no : ⊥ = cc in absurd no

@@ -31,7 +31,7 @@ use Rattle.wiki_model.specs.Rounds.{RoundRow, AnswersJobs, IsProperJob, rounded,
 use Rattle.wiki_model.specs.Runs.{Turn, One, IsRun, opening}
 use Rattle.wiki_model.specs.Consistent.{IsConsistent, IsOpened, HearsYoung, IsParked}
 use Rattle.wiki_model.specs.Caches.{CacheStands, IsTrueIn}
-use Rattle.wiki_model.specs.Promised.{AnswersOpenView, AnswersJob}
+use Rattle.wiki_model.specs.Promised.{IsOpen, AnswersOpenView, AnswersJob, WasGiven}
 use Rattle.wiki_model.specs.Positions.{Finder, PositionsStand, TakesPosition}
 use Rattle.wiki_model.specs.Changes.{Goes, IsGrown, IsEvent, HasMore, IsNext}
 use Rattle.wiki_model.specs.CacheCalls.{TakesPurge, IsNoteOf, IsMarkedBy, value_of_snapshot, ask_of, answer_from, answer_of_replica, look_answer, looked}
@@ -51,6 +51,12 @@ abbrev pub RoundPagesArePromised : Type 0
 RoundPagesArePromised =
     (v with_all : World) (r : Region) (earlier jobs : List Job) (answers : List Answer) (p : PageAnswer)
     → AnswersJobs v with_all r earlier jobs answers → IsIn (Page p) answers → AnswersJob v r jobs p
+
+-- the floor of an open view was given by a turn of the run at which the view was not behind
+abbrev pub FloorsAreGiven : Type 0
+FloorsAreGiven =
+    (setting : Setting) (history : List Entry) (faults : ℕ) (at : Readings) (turns : List Turn) (w : World) (view : OpenView) (floor : Floor)
+    → IsRun (opening setting history faults at) turns w → IsOpen w view floor → WasGiven (opening setting history faults at) turns view floor
 
 -- the last world of each run from an opening is consistent
 abbrev pub RunsStayConsistent : Type 0

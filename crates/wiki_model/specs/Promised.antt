@@ -1,14 +1,16 @@
 -- The main claim in one definition: what holds of a page that a run answers.
 -- It is the page of the prefix that it names; it reaches what its session may not miss; and a hit that is not marked lagged lacks no commit whose purge was received within the bounds.
-use Rattle.std.specs.Prelude.{ℕ, ◌≡◌, ◌⊎◌, false, List, Some}
+use Rattle.std.specs.Prelude.{ℕ, ◌≡◌, ◌⊎◌, false, List, [], ◌∷◌, Some, None}
 use Rattle.wiki_model.specs.declared.Region.{Region}
 use Rattle.wiki_model.specs.declared.Origin.TheVariants as via
 use Rattle.wiki_model.specs.Bytes.{IsIn}
 use Rattle.wiki_model.specs.Titles.{Title}
-use Rattle.wiki_model.specs.World.{World, OpenView, Floor, Snapshot, Job, request_at}
+use Rattle.wiki_model.specs.World.{World, OpenView, Floor, Snapshot, Job, request_at, at_readings}
 use Rattle.wiki_model.specs.World.Request.{ViewWaited, ViewSnapped}
 use Rattle.wiki_model.specs.World.Job.{ViewJob}
 use Rattle.wiki_model.specs.HoldOff.{IsNotStale}
+use Rattle.wiki_model.specs.Sessions.{lag_of, floor_of}
+use Rattle.wiki_model.specs.Runs.{Turn, IsRun}
 use Rattle.wiki_model.specs.Answers.{PageAnswer, IsOfPrefix, Reaches}
 
 pub record IsPromised (v : World) (r : Region) (title : Title) (floor : Floor) (p : PageAnswer) : Type 0 where
@@ -28,3 +30,10 @@ AnswersOpenView v p = (view : OpenView) × (floor : Floor) × IsOpen v view floo
 abbrev pub AnswersJob : World → Region → List Job → PageAnswer → Type 0
 AnswersJob v r jobs p =
     (title : Title) × (need : ℕ) × (word : ℕ) × IsIn (ViewJob title need word) jobs × IsPromised v r title (record { need = need; own = 0 }) p
+
+-- at one of these turns, the newest first, the view was not behind, and this was its floor
+abbrev pub WasGiven : World → List Turn → OpenView → Floor → Type 0
+WasGiven start [] view floor = ⊥
+WasGiven start (turn ∷ earlier) view floor =
+    WasGiven start earlier view floor
+    ⊎ ((v : World) × IsRun start earlier v × (lag_of (at_readings turn.at v) view ≡ None) × (floor ≡ floor_of (at_readings turn.at v) view))

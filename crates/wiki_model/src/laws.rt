@@ -1,7 +1,7 @@
 //! The laws of the definitions, each as the contract of a function that does nothing, so that its proof is asked for.
 //! They say nothing of the program until a contract cites the definitions that they speak of.
 
-ghost use Rattle.wiki_model.specs.Laws.{PagesArePromised, RoundPagesArePromised, RunsStayConsistent, RunsOnlyGrow, EntriesKeepHistories, RevisionsAreCounted, UndecidedEditsAreNext, PagesOfPrefixesStay, PurgesAreOfTheirTitle, EmptyCachesStand, GrowthKeepsCaches, PurgesKeepCaches, PutsKeepCaches, StoresKeepCaches, RoundsKeepCaches, OneWorkerRoundsStand, LooksGoOn, HitsAreNotStale, HitsAreSound, InterimAnswersAreSound, StoredPagesAreSound, MissingPagesAreSound, WholeValuesAreTrue, LaggedValuesAreTrue, NotesAreAllowed, NeedsReachOwnEdits, SnapshotsReachTheirNeed, ChoicesAreOne, MomentsKeepPositions, EntriesKeepPositions, HearingKeepsPositions, SharedHitsAreSound, SharedInterimAnswersAreSound, SharedNotesAreAllowed};
+ghost use Rattle.wiki_model.specs.Laws.{PagesArePromised, FloorsAreGiven, RoundPagesArePromised, RunsStayConsistent, RunsOnlyGrow, EntriesKeepHistories, RevisionsAreCounted, UndecidedEditsAreNext, PagesOfPrefixesStay, PurgesAreOfTheirTitle, EmptyCachesStand, GrowthKeepsCaches, PurgesKeepCaches, PutsKeepCaches, StoresKeepCaches, RoundsKeepCaches, OneWorkerRoundsStand, LooksGoOn, HitsAreNotStale, HitsAreSound, InterimAnswersAreSound, StoredPagesAreSound, MissingPagesAreSound, WholeValuesAreTrue, LaggedValuesAreTrue, NotesAreAllowed, NeedsReachOwnEdits, SnapshotsReachTheirNeed, ChoicesAreOne, MomentsKeepPositions, EntriesKeepPositions, HearingKeepsPositions, SharedHitsAreSound, SharedInterimAnswersAreSound, SharedNotesAreAllowed};
 
 /// Every page that a step of a run answers is as promised: the page of its prefix, with what its session may not miss, and no stale hit.
 pub fn pages_are_promised()
@@ -11,6 +11,11 @@ pub fn pages_are_promised()
 /// So is every page that a round answers.
 pub fn round_pages_are_promised()
     ensures { RoundPagesArePromised }
+{}
+
+/// The floor of an open view was given by a turn of its run, at which the view was not behind.
+pub fn floors_are_given()
+    ensures { FloorsAreGiven }
 {}
 
 /// The last world of every run from an opening is consistent.
