@@ -1,0 +1,106 @@
+-- The pairs of a field, piece by piece.
+use Rattle.std.proofs.Common.{◌≡◌, ℕ, suc, ◌+◌, ◌<◌, ◌≤◌, Bool, true, false, cond, ◌==◌, List, [], ◌∷◌, length, take, drop, Some, None, Option, option_map, bytes_eq, nat_lt, refl, sym, ◌∙◌, ap, subst, arith}
+use Rattle.std.specs.Prelude.{find, filter_map, not, codes, option_and_then}
+use Rattle.std.proofs.lemmas.Bool.Decides.{nat_tests}
+use Rattle.std.proofs.lemmas.List.{drop-drop, length-drop}
+use Rattle.wiki_model.specs.Bytes.{Bytes, pieces}
+use Rattle.wiki_model.specs.World.{Cookie}
+use Rattle.wiki_model.specs.Cookies.{Cookies, name_and_value, first_named, is_value, if_good, position_in, cookies_in}
+use Rattle.sticky_routes.specs.Cuts.{before}
+use Rattle.sticky_routes.specs.Named.{value_named}
+use Rattle.std.proofs.lemmas.List.Sums.{prefix_len-le-length}
+use Rattle.std.specs.Option.{option_or}
+
+-- the value of the first pair of this name among these pieces
+abbrev pub named_in : (name : Bytes) → List Bytes → Option Bytes
+named_in name some = option_map (λ p. p.1) (find (λ p. bytes_eq p.0 name) (filter_map name_and_value some))
+
+pub record Left (name text : Bytes) (at : ℕ) : Type 0 where
+  pub within : at ≤ length text + 1
+  pub inside : at ≤ length text → first_named text name ≡ named_in name (pieces 59 (drop at text))
+  pub past : length text < at → first_named text name ≡ None
+
+pub left_all : (name text : Bytes) → Left name text 0
+left_all name text = record { within = omega arith; inside = λ _. refl; past = λ h. absurd (omega (arith, h)) }
+
+last_piece : (mark : ℕ) (text : Bytes) → before mark text ≡ length text → pieces mark text ≡ take (before mark text) text ∷ []
+last_piece mark [] e = refl
+last_piece mark (c ∷ text) e = by (c == mark) refl (last_piece mark text)
+  where
+    by : (b : Bool) → (c == mark) ≡ b → (before mark text ≡ length text → pieces mark text ≡ take (before mark text) text ∷ []) → pieces mark (c ∷ text) ≡ take (before mark (c ∷ text)) (c ∷ text) ∷ []
+    by true t rest = let none : ⊥ = omega (arith, rw t at e) in absurd none
+    by false t rest =
+        let next : 1 + before mark text ≡ suc (before mark text) = omega arith in
+        rw (t, next, rest (let tail = rw t at e in omega (arith, tail))) refl
+
+first_piece : (mark : ℕ) (text : Bytes) → before mark text < length text → pieces mark text ≡ take (before mark text) text ∷ pieces mark (drop (before mark text + 1) text)
+first_piece mark [] h = let none : ⊥ = omega (arith, h) in absurd none
+first_piece mark (c ∷ text) h = by (c == mark) refl (first_piece mark text)
+  where
+    by : (b : Bool) → (c == mark) ≡ b
+        → (before mark text < length text → pieces mark text ≡ take (before mark text) text ∷ pieces mark (drop (before mark text + 1) text)) → pieces mark (c ∷ text) ≡ take (before mark (c ∷ text)) (c ∷ text) ∷ pieces mark (drop (before mark (c ∷ text) + 1) (c ∷ text))
+    by true t rest = rw t refl
+    by false t rest =
+        let next : 1 + before mark text ≡ suc (before mark text) = omega arith in
+        let after : suc (before mark text) + 1 ≡ suc (before mark text + 1) = omega arith in
+        rw (t, next, after, rest (let tail = rw t at h in omega (arith, tail))) refl
+
+named_first : (name piece : Bytes) (some : List Bytes) (found : Option Bytes) → found ≡ value_named name piece → named_in name (piece ∷ some) ≡ option_or found (named_in name some)
+named_first name piece some found e = by (name_and_value piece) refl ∙ ap (λ (o : Option Bytes). option_or o (named_in name some)) (sym e)
+  where
+    named : (pair : Bytes × Bytes) → (b : Bool) → bytes_eq pair.0 name ≡ b
+        → option_map (λ p. p.1) (cond (bytes_eq pair.0 name) (Some pair) (find (λ p. bytes_eq p.0 name) (filter_map name_and_value some))) ≡ option_or (cond (bytes_eq pair.0 name) (Some pair.1) None) (named_in name some)
+    named pair true t = rw t refl
+    named pair false t = rw t refl
+
+    by : (o : Option (Bytes × Bytes)) → name_and_value piece ≡ o → named_in name (piece ∷ some) ≡ option_or (value_named name piece) (named_in name some)
+    by None t = rw t refl
+    by (Some pair) t = rw t (named pair (bytes_eq pair.0 name) refl)
+
+abbrev piece_at : (text : Bytes) → (at : ℕ) → Bytes
+piece_at text at = take (before 59 (drop at text)) (drop at text)
+
+before_most : (mark : ℕ) (text : Bytes) → before mark text ≤ length text
+before_most mark text = prefix_len-le-length (λ c. not (c == mark)) text
+
+-- the piece at the front of what is left says the value, or is passed over
+told : (name text : Bytes) (at : ℕ) (value : Bytes) → at ≤ length text → Left name text at → Some value ≡ value_named name (piece_at text at) → Some value ≡ first_named text name
+told name text at value h is e = by (nat_lt (before 59 (drop at text)) (length (drop at text))) refl
+  where
+    by : (b : Bool) → nat_lt (before 59 (drop at text)) (length (drop at text)) ≡ b → Some value ≡ first_named text name
+    by true t = sym (is.inside h ∙ ap (named_in name) (first_piece 59 (drop at text) (grind (arith, nat_tests, t)))
+        ∙ named_first name (piece_at text at) (pieces 59 (drop (before 59 (drop at text) + 1) (drop at text))) (Some value) e)
+    by false t = let most = before_most 59 (drop at text) in
+        sym (is.inside h ∙ ap (named_in name) (last_piece 59 (drop at text) (grind (arith, nat_tests, t, most))) ∙ named_first name (piece_at text at) [] (Some value) e)
+
+passed : (name text : Bytes) (at : ℕ) → at ≤ length text → Left name text at → None ≡ value_named name (piece_at text at) → Left name text (at + (before 59 (drop at text) + 1))
+passed name text at h is e = record {
+  within = let most = before_most 59 (drop at text) in let total = length-drop at text in omega (arith, total, most, h);
+  inside = λ more. is.inside h
+      ∙ ap (named_in name) (first_piece 59 (drop at text) (let most = before_most 59 (drop at text) in let total = length-drop at text in omega (arith, total, more, most)))
+      ∙ named_first name (piece_at text at) (pieces 59 (drop (before 59 (drop at text) + 1) (drop at text))) None e
+      ∙ ap (λ (t : Bytes). named_in name (pieces 59 t)) (drop-drop (before 59 (drop at text) + 1) at text);
+  past = λ over. is.inside h
+      ∙ ap (named_in name) (last_piece 59 (drop at text) (let most = before_most 59 (drop at text) in let total = length-drop at text in omega (arith, total, most, over, h)))
+      ∙ named_first name (piece_at text at) [] None e;
+}
+
+same_piece : (text rest piece : Bytes) (at count : ℕ) → rest ≡ drop at text → count ≡ before 59 rest → piece ≡ take count rest → piece ≡ piece_at text at
+same_piece text rest piece at count rest_is count_is piece_is = piece_is ∙ ap (λ n. take n rest) count_is ∙ ap (λ (r : Bytes). take (before 59 r) r) rest_is
+
+pub told_value : (name text rest piece value : Bytes) (at count : ℕ) → at ≤ length text → Left name text at → rest ≡ drop at text → count ≡ before 59 rest → piece ≡ take count rest
+    → Some value ≡ value_named name piece → Some value ≡ first_named text name
+told_value name text rest piece value at count h is rest_is count_is piece_is e =
+    told name text at value h is (e ∙ ap (value_named name) (same_piece text rest piece at count rest_is count_is piece_is))
+
+pub passed_piece : (name text rest piece : Bytes) (at count : ℕ) → at ≤ length text → Left name text at → rest ≡ drop at text → count ≡ before 59 rest → piece ≡ take count rest
+    → None ≡ value_named name piece → Left name text (at + (count + 1))
+passed_piece name text rest piece at count h is rest_is count_is piece_is e =
+    subst (λ n. Left name text (at + (n + 1))) (sym (count_is ∙ ap (before 59) rest_is))
+    (passed name text at h is (e ∙ ap (value_named name) (same_piece text rest piece at count rest_is count_is piece_is)))
+
+-- the three cookies of a field together
+pub same_cookies : (position : Option Cookie) (use_master no_edge : Bool) (text : Bytes) → position ≡ option_and_then (λ value. if_good (position_in value)) (first_named text (codes "cpPosIndex"))
+    → use_master ≡ is_value (codes "master") (first_named text (codes "UseDC")) → no_edge ≡ is_value (codes "false") (first_named text (codes "UseCDNCache"))
+    → let cookies : Cookies = record { position = position; use_master = use_master; no_edge = no_edge } in cookies ≡ cookies_in text
+same_cookies position use_master no_edge text p m e = rw (p, m, e) refl

@@ -1,0 +1,119 @@
+-- A text whose marks may be escapes, read from the front.
+use Rattle.std.proofs.Common.{◌≡◌, ℕ, ◌+◌, ◌<◌, ◌≤◌, Bool, true, false, ◌&&◌, ◌==◌, [], ◌∷◌, ◌++◌, length, take, drop, get_or, Some, None, Option, option_map, nat_eq, bytes_eq, refl, sym, ◌∙◌, ap, subst, arith, append_assoc}
+use Rattle.std.specs.Prelude.{codes}
+use Rattle.std.specs.List.{list_all, starts_with}
+use Rattle.std.proofs.Math.Seq.{take-add}
+use Rattle.std.proofs.lemmas.Cmp.{nat_list_eq_equiv}
+use Rattle.std.proofs.lemmas.List.{take-append-drop, drop-drop, drop_all, length-drop, append-nil}
+use Rattle.std.proofs.lemmas.List.Folds.{list_all-append}
+use Rattle.std.proofs.lemmas.Bool.Decides.{nat_tests}
+use Rattle.std.proofs.lemmas.Slice.Eq.{bytes_eq-Decides}
+use Rattle.wiki_model.specs.Bytes.{Bytes, cut_at}
+use Rattle.wiki_model.specs.Titles.{is_digit}
+use Rattle.wiki_model.specs.Cookies.{with_marks}
+use Rattle.sticky_routes.specs.Cuts.{ReadsAs, HasFirst, IsCut}
+use Rattle.sticky_routes.proofs.Places.{begins_one}
+
+-- Which byte comes first
+
+split_three : (text needle : Bytes) → length needle ≡ 3 → starts_with nat_eq text needle ≡ true → text ≡ needle ++ drop 3 text
+split_three text needle three e =
+    let front : bytes_eq needle (take 3 text) ≡ true = subst (λ n. bytes_eq needle (take n text) ≡ true) three e in
+    let same : needle ≡ take 3 text = (bytes_eq-Decides needle (take 3 text)).0 front in
+    sym (take-append-drop 3 text) ∙ ap (λ (t : Bytes). t ++ drop 3 text) (sym same)
+
+escape : (letter a b : ℕ) (rest : Bytes) → with_marks (37 ∷ a ∷ b ∷ rest) ≡ letter ∷ with_marks rest → is_digit letter ≡ false → HasFirst (37 ∷ a ∷ b ∷ rest) letter 3
+escape letter a b rest e apart = record {
+  some = omega arith;
+  within = omega arith;
+  first = e;
+  reads = record { digits = rw apart refl; plain = λ no. let never : ⊥ = cc in absurd never };
+}
+
+pub first_at : (text : Bytes) → starts_with nat_eq text (codes "%40") ≡ true → HasFirst text 64 3
+first_at text e = subst (λ (t : Bytes). HasFirst t 64 3) (sym (split_three text (codes "%40") refl e)) (escape 64 52 48 (drop 3 text) refl refl)
+
+pub first_hash : (text : Bytes) → starts_with nat_eq text (codes "%23") ≡ true → HasFirst text 35 3
+first_hash text e = subst (λ (t : Bytes). HasFirst t 35 3) (sym (split_three text (codes "%23") refl e)) (escape 35 50 51 (drop 3 text) refl refl)
+
+one_byte : (c : ℕ) (rest : Bytes) → with_marks (c ∷ rest) ≡ c ∷ with_marks rest → HasFirst (c ∷ rest) c 1
+one_byte c rest e = record { some = omega arith; within = omega arith; first = e; reads = record { digits = refl; plain = λ _. refl } }
+
+pub first_plain : (text : Bytes) → 0 < length text → starts_with nat_eq text (codes "%40") ≡ false → starts_with nat_eq text (codes "%23") ≡ false → HasFirst text (get_or text 0 0) 1
+first_plain [] h at hash = let none : ⊥ = omega (arith, h) in absurd none
+first_plain (a ∷ []) h at hash = one_byte a [] refl
+first_plain (a ∷ b ∷ []) h at hash = one_byte a (b ∷ []) refl
+first_plain (a ∷ b ∷ c ∷ rest) h at hash =
+    let three : Bytes = a ∷ b ∷ c ∷ [] in
+    let no_at : bytes_eq three (codes "%40") ≡ false = nat_list_eq_equiv.symm three (codes "%40") ∙ at in
+    let no_hash : bytes_eq three (codes "%23") ≡ false = nat_list_eq_equiv.symm three (codes "%23") ∙ hash in
+    one_byte a (b ∷ c ∷ rest) (rw (no_at, no_hash) refl)
+
+-- What was passed over
+
+abbrev pub joined : Bytes → Option (Bytes × Bytes) → Option (Bytes × Bytes)
+joined front None = None
+joined front (Some parts) = Some (front ++ parts.0, parts.1)
+
+-- up to this place the text means no mark
+pub record Skipped (mark : ℕ) (text : Bytes) (at : ℕ) : Type 0 where
+  pub within : at ≤ length text
+  pub meant : Bytes
+  pub reads : ReadsAs meant (take at text)
+  pub rest : cut_at (mark ∷ []) (with_marks text) ≡ joined meant (cut_at (mark ∷ []) (with_marks (drop at text)))
+
+joined-nil : (o : Option (Bytes × Bytes)) → o ≡ joined [] o
+joined-nil None = refl
+joined-nil (Some parts) = refl
+
+pub skipped_none : (mark : ℕ) (text : Bytes) → Skipped mark text 0
+skipped_none mark text = record { within = omega arith; meant = []; reads = record { digits = refl; plain = λ _. refl }; rest = joined-nil (cut_at (mark ∷ []) (with_marks text)) }
+
+reads-append : (a b c d : Bytes) → ReadsAs a b → ReadsAs c d → ReadsAs (a ++ c) (b ++ d)
+reads-append a b c d first second = record {
+  digits = list_all-append is_digit a c ∙ rw (first.digits, second.digits) (sym (list_all-append is_digit b d));
+  plain = λ all. by (list_all is_digit b) (list_all is_digit d) refl refl (sym (list_all-append is_digit b d) ∙ all);
+}
+  where
+    by : (s t : Bool) → list_all is_digit b ≡ s → list_all is_digit d ≡ t → (list_all is_digit b && list_all is_digit d) ≡ true → a ++ c ≡ b ++ d
+    by true true e f all = ap (λ (x : Bytes). x ++ c) (first.plain e) ∙ ap (λ (x : Bytes). b ++ x) (second.plain f)
+    by true false e f all = let never : true ≡ false = sym all ∙ rw (e, f) refl in let no : ⊥ = cc in absurd no
+    by false t e f all = let never : true ≡ false = sym all ∙ rw e refl in let no : ⊥ = cc in absurd no
+
+joined-more : (front : Bytes) (letter : ℕ) (o : Option (Bytes × Bytes)) → joined front (option_map (λ p. (letter ∷ p.0, p.1)) o) ≡ joined (front ++ letter ∷ []) o
+joined-more front letter None = refl
+joined-more front letter (Some parts) = ap (λ (x : Bytes). Some (x, parts.1)) (sym (append_assoc front (letter ∷ []) parts.0))
+
+other_letter : (mark letter : ℕ) (text : Bytes) → (letter ≡ mark → ⊥) → cut_at (mark ∷ []) (letter ∷ text) ≡ option_map (λ p. (letter ∷ p.0, p.1)) (cut_at (mark ∷ []) text)
+other_letter mark letter text apart =
+    let other : (letter == mark) ≡ false = grind (arith, nat_tests, apart) in
+    rw (begins_one mark letter text, other) refl
+
+pub skipped_more : (mark : ℕ) (text : Bytes) (at letter width : ℕ) → Skipped mark text at → HasFirst (drop at text) letter width → (letter ≡ mark → ⊥) → Skipped mark text (at + width)
+skipped_more mark text at letter width is first apart = record {
+  within = let e = length-drop at text in let w = first.within in let v = is.within in omega (arith, e, w, v);
+  meant = is.meant ++ letter ∷ [];
+  reads = subst (ReadsAs (is.meant ++ letter ∷ [])) (sym (take-add at width text)) (reads-append is.meant (take at text) (letter ∷ []) (take width (drop at text)) is.reads first.reads);
+  rest = is.rest
+      ∙ ap (λ (t : Bytes). joined is.meant (cut_at (mark ∷ []) t)) first.first
+      ∙ ap (joined is.meant) (other_letter mark letter (with_marks (drop width (drop at text))) apart)
+      ∙ joined-more is.meant letter (cut_at (mark ∷ []) (with_marks (drop width (drop at text))))
+      ∙ ap (λ (t : Bytes). joined (is.meant ++ letter ∷ []) (cut_at (mark ∷ []) (with_marks t))) (drop-drop width at text);
+}
+
+this_letter : (mark : ℕ) (text : Bytes) → cut_at (mark ∷ []) (mark ∷ text) ≡ Some ([], text)
+this_letter mark text = let same : (mark == mark) ≡ true = grind (arith, nat_tests) in rw (begins_one mark mark text, same) refl
+
+pub found_mark : (mark : ℕ) (text : Bytes) (at letter width : ℕ) → Skipped mark text at → HasFirst (drop at text) letter width → letter ≡ mark
+    → IsCut mark text (Some (take at text, drop width (drop at text)))
+found_mark mark text at letter width is first same = (
+  is.meant,
+  is.reads,
+  is.rest
+      ∙ ap (λ (t : Bytes). joined is.meant (cut_at (mark ∷ []) t)) (first.first ∙ ap (λ n. n ∷ with_marks (drop width (drop at text))) same)
+      ∙ ap (joined is.meant) (this_letter mark (with_marks (drop width (drop at text))))
+      ∙ ap (λ (x : Bytes). Some (x, with_marks (drop width (drop at text)))) (append-nil is.meant),
+)
+
+pub no_mark : (mark : ℕ) (text : Bytes) (at : ℕ) → Skipped mark text at → length text ≤ at → IsCut mark text None
+no_mark mark text at is h = is.rest ∙ ap (λ (t : Bytes). joined is.meant (cut_at (mark ∷ []) (with_marks t))) (drop_all at text h)

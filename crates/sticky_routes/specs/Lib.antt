@@ -1,0 +1,4 @@
+pub mod Shown
+pub mod Cuts
+pub mod Lines
+pub mod Named
