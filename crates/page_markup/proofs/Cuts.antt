@@ -1,8 +1,8 @@
 -- Where a text may be cut: before and after the marks of the markup, which are ASCII.
-use Rattle.std.proofs.Common.{zero, suc, [], ◌∷◌, ◌++◌, List, length, take, drop, ◌≡◌, ℕ, ◌≤◌, ◌<◌, ◌+◌, ◌-◌, Bool, true, false, refl, arith, ap, sym, ◌∙◌, get_or, nat_eq, append-nil, subst, inl, inr, ◌⊎◌, append_assoc}
-use Rattle.std.proofs.lemmas.List.{length-take, length-drop, take_all, drop_all}
+use Rattle.std.proofs.Common.{suc, [], ◌∷◌, ◌++◌, length, take, drop, ◌≡◌, ℕ, ◌≤◌, ◌<◌, ◌+◌, ◌-◌, Bool, true, false, refl, arith, ap, sym, ◌∙◌, get_or, nat_eq, append-nil, subst, inl, inr, ◌⊎◌, append_assoc}
+use Rattle.std.proofs.lemmas.List.{length-drop, take_all, drop_all}
 use Rattle.std.proofs.lemmas.Str.{IsCharBoundary-end, IsCharBoundary-before_ascii, IsCharBoundary-after_ascii}
-use Rattle.std.proofs.Math.Seq.{drop-cons, take-length}
+use Rattle.std.proofs.Math.Seq.{drop-cons}
 use Rattle.std.proofs.lemmas.Bool.Decides.{nat_tests}
 use Rattle.std.proofs.Math.Nat.{eq-or-lt_of_le}
 use Rattle.std.specs.Cmp.Lexicographic.{same_text}
@@ -12,7 +12,7 @@ use Rattle.wiki_model.specs.Bytes.{Bytes, begins, replaced, line_feed, space}
 use Rattle.page_markup.specs.declared.brackets.Names.{Names}
 use Rattle.page_markup.specs.declared.brackets.Names.TheVariants.{Links, Templates}
 use Rattle.page_markup.specs.Marks.{distance, next_place, opening_of, closing_of}
-use Rattle.page_markup.proofs.Places.{distance_here, distance_on, distance_within, drop_drop, begins_fits}
+use Rattle.page_markup.proofs.Places.{distance_here, distance_on, drop_drop, begins_fits}
 
 begins_is : (mark s : Bytes) → begins mark s ≡ true → mark ≡ take (length mark) s
 begins_is mark s e = same_text mark (take (length mark) s) (sym e)
@@ -27,7 +27,7 @@ same_second a b c d s t e = ap (λ l. get_or l 1 0) e
 pub first_of : (m : ℕ) (ms s : Bytes) (n : ℕ) → n < length s → begins (m ∷ ms) (drop n s) ≡ true → get_or s n 0 ≡ m
 first_of m ms s n l e =
     sym (same_front m (get_or s n 0) ms (take (length ms) (drop (suc n) s))
-        (begins_is (m ∷ ms) (drop n s) e ∙ ap (take (suc (length ms))) (drop-cons s n 0 l)))
+    (begins_is (m ∷ ms) (drop n s) e ∙ ap (take (suc (length ms))) (drop-cons s n 0 l)))
 
 -- the mark stands at its next place
 found_by : (mark : Bytes) (c : ℕ) (s : Bytes) (b : Bool) → begins mark (c ∷ s) ≡ b → (distance mark s < length s → begins mark (drop (distance mark s) s) ≡ true)
@@ -69,9 +69,9 @@ cut_after_two a b s n u h e =
     let fits : 2 ≤ length (drop n s) = begins_fits (a ∷ b ∷ []) (drop n s) e in
     let l : suc n < length s = omega (arith, fits, length-drop n s) in
     let two : drop n s ≡ get_or s n 0 ∷ get_or s (suc n) 0 ∷ drop (suc (suc n)) s =
-        drop-cons s n 0 (omega (arith, l)) ∙ ap (λ t. get_or s n 0 ∷ t) (drop-cons s (suc n) 0 l) in
+    drop-cons s n 0 (omega (arith, l)) ∙ ap (λ t. get_or s n 0 ∷ t) (drop-cons s (suc n) 0 l) in
     let f : b ≡ get_or s (suc n) 0 =
-        same_second a b (get_or s n 0) (get_or s (suc n) 0) [] [] (begins_is (a ∷ b ∷ []) (drop n s) e ∙ ap (take 2) two) in
+    same_second a b (get_or s n 0) (get_or s (suc n) 0) [] [] (begins_is (a ∷ b ∷ []) (drop n s) e ∙ ap (take 2) two) in
     subst (IsCharBoundary s) (let z : suc n + 1 ≡ n + 2 = omega arith in z) (IsCharBoundary-after_ascii s (suc n) u l (omega (arith, f, h)))
 
 pub opening_cut : (names : Names) (s : Bytes) (n : ℕ) → IsUtf8 s → begins (opening_of names) (drop n s) ≡ true → IsCharBoundary s (n + 2)

@@ -1,9 +1,9 @@
 -- Which marks can stand at a place, by its first byte.
-use Rattle.std.proofs.Common.{zero, suc, [], ◌∷◌, ◌++◌, List, length, drop, ◌≡◌, ℕ, ◌<◌, Bool, true, false, refl, arith, ap, sym, ◌∙◌, nat_eq, get_or, append-nil}
+use Rattle.std.proofs.Common.{suc, [], ◌∷◌, ◌++◌, List, length, drop, ◌≡◌, ℕ, ◌<◌, false, refl, arith, ap, sym, ◌∙◌, nat_eq, get_or, append-nil}
 use Rattle.std.specs.Prelude.{codes}
 use Rattle.std.proofs.lemmas.Bool.Decides.{nat_tests}
 use Rattle.std.proofs.Math.Seq.{drop-cons}
-use Rattle.wiki_model.specs.Bytes.{Bytes, begins}
+use Rattle.wiki_model.specs.Bytes.{Bytes}
 use Rattle.wiki_model.specs.Html.{template_named}
 use Rattle.page_markup.specs.declared.inline.Mark.{Mark}
 use Rattle.page_markup.specs.Marks.{link_target, marks_here, all_quotes, bracket_marks}

@@ -1,14 +1,14 @@
 -- What a line is: the spaces at its ends, the signs of a heading, and the tests in their order.
-use Rattle.std.proofs.Common.{zero, suc, [], ◌∷◌, ◌++◌, List, length, take, drop, reverse, ◌≡◌, ℕ, ◌≤◌, ◌<◌, ◌+◌, ◌-◌, Bool, true, false, refl, arith, ap, sym, ◌∙◌, get_or, nat_eq, nat_lt, min, subst}
-use Rattle.std.specs.Prelude.{if◌then◌else◌, not, ◌==◌, ◌&&◌, codes, ◌≢◌}
+use Rattle.std.proofs.Common.{zero, suc, [], ◌∷◌, ◌++◌, length, take, drop, reverse, ◌≡◌, ℕ, ◌≤◌, ◌<◌, ◌+◌, ◌-◌, Bool, true, false, refl, arith, ap, sym, ◌∙◌, get_or, nat_eq, nat_lt, subst}
+use Rattle.std.specs.Prelude.{not, ◌==◌, ◌&&◌, codes, ◌≢◌}
 use Rattle.std.specs.List.{list_all}
 use Rattle.std.specs.Str.{IsUtf8, IsCharBoundary}
 use Rattle.std.proofs.lemmas.Bool.Decides.{nat_tests}
-use Rattle.std.proofs.lemmas.List.{length-reverse, reverse-reverse, reverse-append, get_or-reverse, drop_all, length-drop}
+use Rattle.std.proofs.lemmas.List.{length-reverse, reverse-reverse, reverse-append, get_or-reverse, drop_all}
 use Rattle.std.proofs.lemmas.Str.{IsCharBoundary-before_ascii, IsCharBoundary-after_ascii}
 use Rattle.std.proofs.Math.Seq.{drop-cons}
 use Rattle.wiki_model.specs.Bytes.{Bytes, begins, space, run_of, trimmed, skip_spaces, is_empty}
-use Rattle.wiki_model.specs.Html.{Line, Blank, HeadingLine, ItemLine, PlainLine, heading_level, is_heading, middle_of, line_of}
+use Rattle.wiki_model.specs.Html.{Blank, HeadingLine, ItemLine, PlainLine, heading_level, is_heading, middle_of, line_of}
 use Rattle.page_markup.proofs.Cuts.{begins_one}
 
 -- spaces

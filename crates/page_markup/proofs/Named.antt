@@ -1,5 +1,5 @@
 -- The templates that a text names, by its marks and in order.
-use Rattle.std.proofs.Common.{zero, suc, [], ◌∷◌, ◌++◌, List, length, drop, ◌≡◌, ℕ, ◌<◌, ◌+◌, refl, arith, ap, sym, ◌∙◌, Some, None, get_or, append_assoc, append-nil, subst, Bool, true}
+use Rattle.std.proofs.Common.{suc, [], ◌∷◌, ◌++◌, List, length, drop, ◌≡◌, ℕ, ◌<◌, ◌+◌, refl, arith, ap, sym, ◌∙◌, Some, None, get_or, append_assoc, append-nil, subst, true}
 use Rattle.std.specs.Prelude.{Option, codes, option_and_then, ◌↔◌, bytes_eq}
 use Rattle.std.specs.List.{Contains, dedup}
 use Rattle.std.specs.List.Sorted.{IsSorted, IsPermutation, IsStrictlySortedBy}
@@ -62,6 +62,7 @@ same_title : (x y : Bytes) → bytes_eq x y ≡ true → x ≡ y
 same_title x y e = same_text x y (sym e)
 
 pub same_titles : (titles sorted names : List Title) → IsPermutation titles sorted → names ≡ dedup bytes_eq sorted → (t : Title) → Contains names t ↔ Contains titles t
-same_titles titles sorted names p e t =
-    (λ h. Contains-permutation sorted titles t (IsPermutation-sym titles sorted p) (Contains-from_dedup bytes_eq sorted t (subst (λ ns. Contains ns t) e h)),
-     λ h. subst (λ ns. Contains ns t) (sym e) (Contains-dedup nat_list_eq_equiv same_title sorted t (Contains-permutation titles sorted t p h)))
+same_titles titles sorted names p e t = (
+  λ h. Contains-permutation sorted titles t (IsPermutation-sym titles sorted p) (Contains-from_dedup bytes_eq sorted t (subst (λ ns. Contains ns t) e h)),
+  λ h. subst (λ ns. Contains ns t) (sym e) (Contains-dedup nat_list_eq_equiv same_title sorted t (Contains-permutation titles sorted t p h)),
+)

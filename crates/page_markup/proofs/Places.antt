@@ -5,13 +5,13 @@ use Rattle.std.proofs.Common.{append-nil, inl, inr, ◌⊎◌, subst, append_ass
 use Rattle.std.proofs.Math.Seq.{take-length}
 use Rattle.std.proofs.Math.Nat.{eq-or-lt_of_le}
 use Rattle.std.specs.Cmp.Lexicographic.{same_text}
-use Rattle.std.specs.Prelude.{Option, codes, option_map}
+use Rattle.std.specs.Prelude.{Option, codes}
 use Rattle.wiki_model.specs.Titles.{Title, title_of}
 use Rattle.wiki_model.specs.Html.{ok_of, target_and_label}
 use Rattle.std.proofs.lemmas.Bool.Decides.{nat_tests}
 use Rattle.std.proofs.Math.Seq.{drop-cons}
 use Rattle.wiki_model.specs.Bytes.{Bytes, begins, cut_at}
-use Rattle.wiki_model.specs.Html.{enclosed, cut_after_one, bracketed}
+use Rattle.wiki_model.specs.Html.{enclosed, bracketed}
 use Rattle.page_markup.specs.declared.inline.Mark.{Mark}
 use Rattle.page_markup.specs.declared.inline.Known.{Known}
 use Rattle.page_markup.specs.Marks.{distance, next_place, Remembers, quote_marks, quote_marks_of, bracket_marks, bracket_marks_of, named_marks_of, link_target, marks_here, marks_from, IsKnown}
@@ -36,9 +36,9 @@ distance_on mark (c ∷ s) h e = rw e refl
 pub distance_within : (mark s : Bytes) → distance mark s ≤ length s
 distance_within mark [] = omega arith
 distance_within mark (c ∷ s) = by (begins mark (c ∷ s)) (distance mark s) (length s) (distance_within mark s) where
-    by : (b : Bool) (d n : ℕ) → d ≤ n → cond b 0 (suc d) ≤ suc n
-    by true d n h = omega arith
-    by false d n h = omega (arith, h)
+  by : (b : Bool) (d n : ℕ) → d ≤ n → cond b 0 (suc d) ≤ suc n
+  by true d n h = omega arith
+  by false d n h = omega (arith, h)
 
 -- a place on
 pub place_on : (mark : Bytes) (at : ℕ) (text : Bytes) → at < length text → begins mark (drop at text) ≡ false → next_place mark at text ≡ next_place mark (at + 1) text
@@ -52,9 +52,9 @@ place_on mark at text h e =
 pub distance_pred : (mark s : Bytes) → 0 < distance mark s → distance mark s ≡ suc (distance mark (drop 1 s))
 distance_pred mark [] h = let no : ⊥ = omega (arith, h) in absurd no
 distance_pred mark (c ∷ s) h = by (begins mark (c ∷ s)) (distance mark s) h where
-    by : (b : Bool) (d : ℕ) → 0 < cond b 0 (suc d) → cond b 0 (suc d) ≡ suc d
-    by true d h = let no : ⊥ = omega (arith, h) in absurd no
-    by false d h = refl
+  by : (b : Bool) (d : ℕ) → 0 < cond b 0 (suc d) → cond b 0 (suc d) ≡ suc d
+  by true d h = let no : ⊥ = omega (arith, h) in absurd no
+  by false d h = refl
 
 pub remembers_on : (mark text : Bytes) (from place : ℕ) → Remembers mark text from place → Remembers mark text (from + 1) place
 remembers_on mark text from place r h =
@@ -110,7 +110,7 @@ quotes_found rule mark at text e lt found =
     let n = at + length mark in
     let t = drop (n + 1) text in
     let f : drop (length mark) (drop at text) ≡ get_or text n 0 ∷ t =
-        drop_drop (length mark) at text ∙ drop-cons text n 0 lt ∙ ap (λ k. get_or text n 0 ∷ drop k text) (let s : suc n ≡ n + 1 = omega arith in s) in
+    drop_drop (length mark) at text ∙ drop-cons text n 0 lt ∙ ap (λ k. get_or text n 0 ∷ drop k text) (let s : suc n ≡ n + 1 = omega arith in s) in
     let len : length t ≡ length text - (n + 1) = length-drop (n + 1) text in
     let h : distance mark t < length t = omega (arith, len, found) in
     let whole = enclosed_some mark (drop at text) (get_or text n 0) t e f h in
@@ -125,7 +125,7 @@ quotes_missed_alone rule mark at text e lt found =
     let n = at + length mark in
     let t = drop (n + 1) text in
     let f : drop (length mark) (drop at text) ≡ get_or text n 0 ∷ t =
-        drop_drop (length mark) at text ∙ drop-cons text n 0 lt ∙ ap (λ k. get_or text n 0 ∷ drop k text) (let s : suc n ≡ n + 1 = omega arith in s) in
+    drop_drop (length mark) at text ∙ drop-cons text n 0 lt ∙ ap (λ k. get_or text n 0 ∷ drop k text) (let s : suc n ≡ n + 1 = omega arith in s) in
     let len : length t ≡ length text - (n + 1) = length-drop (n + 1) text in
     let h : length t ≤ distance mark t = omega (arith, len, found) in
     ap (quote_marks_of rule at (length mark)) (enclosed_none mark (drop at text) (get_or text n 0) t e f h)
@@ -265,11 +265,11 @@ pub known_next : (text : Bytes) (at : ℕ) (known : Known) → Remembers (codes 
     → Remembers (codes "''") text (at + 3) known.two → Remembers (codes "]]") text (at + 2) known.brackets → Remembers (codes "}}") text (at + 2) known.braces
     → IsKnown text (at + 1) known
 known_next text at known five three two brackets braces = record {
-    five = remembers_past (codes "'''''") text (at + 6) (at + 1 + 6) known.five five (omega arith);
-    three = remembers_past (codes "'''") text (at + 4) (at + 1 + 4) known.three three (omega arith);
-    two = remembers_past (codes "''") text (at + 3) (at + 1 + 3) known.two two (omega arith);
-    brackets = remembers_past (codes "]]") text (at + 2) (at + 1 + 2) known.brackets brackets (omega arith);
-    braces = remembers_past (codes "}}") text (at + 2) (at + 1 + 2) known.braces braces (omega arith);
+  five = remembers_past (codes "'''''") text (at + 6) (at + 1 + 6) known.five five (omega arith);
+  three = remembers_past (codes "'''") text (at + 4) (at + 1 + 4) known.three three (omega arith);
+  two = remembers_past (codes "''") text (at + 3) (at + 1 + 3) known.two two (omega arith);
+  brackets = remembers_past (codes "]]") text (at + 2) (at + 1 + 2) known.brackets brackets (omega arith);
+  braces = remembers_past (codes "}}") text (at + 2) (at + 1 + 2) known.braces braces (omega arith);
 }
 
 pub known_on : (text : Bytes) (at : ℕ) (known : Known) → IsKnown text at known → IsKnown text (at + 1) known

@@ -1,18 +1,17 @@
 -- The blocks of a text, a line at a time.
-use Rattle.std.proofs.Common.{zero, suc, [], ◌∷◌, ◌++◌, List, length, take, drop, map, ◌≡◌, ℕ, ◌≤◌, ◌<◌, ◌+◌, ◌-◌, Bool, true, false, refl, arith, ap, sym, ◌∙◌, get_or, nat_eq, inl, inr, ◌⊎◌, append_assoc, append-nil, subst}
-use Rattle.std.specs.Prelude.{codes, if◌then◌else◌, ⊤}
+use Rattle.std.proofs.Common.{zero, suc, [], ◌∷◌, ◌++◌, List, length, take, drop, map, ◌≡◌, ℕ, ◌≤◌, ◌<◌, ◌+◌, ◌-◌, Bool, true, false, refl, arith, ap, sym, ◌∙◌, get_or, nat_eq, inl, inr, ◌⊎◌, append_assoc, subst}
+use Rattle.std.specs.Prelude.{codes, ⊤}
 use Rattle.std.proofs.lemmas.Bool.Decides.{nat_tests}
 use Rattle.std.proofs.lemmas.List.{length-drop, take_all, drop_all, get_or-drop}
 use Rattle.std.proofs.Math.Nat.{eq-or-lt_of_le}
-use Rattle.std.proofs.Math.Seq.{drop-cons}
-use Rattle.wiki_model.specs.Bytes.{Bytes, begins, line_feed, pieces, in_first}
+use Rattle.wiki_model.specs.Bytes.{Bytes, line_feed, pieces, in_first}
 use Rattle.wiki_model.specs.Html.{Line, Blank, HeadingLine, ItemLine, PlainLine, Gap, Items, line_of, blocks_of, with_front, with_item, with_line}
 use Rattle.wiki_model.specs.Html as html
 use Rattle.page_markup.specs.declared.blocks.Block.{Block}
-use Rattle.page_markup.specs.declared.blocks.BlockKind.TheVariants.{Heading, List as ListOf, Paragraph}
+use Rattle.page_markup.specs.declared.blocks.BlockKind.TheVariants.{Heading}
 use Rattle.page_markup.specs.declared.inline.Inline.{Inline}
 use Rattle.page_markup.specs.Marks.{distance, next_place}
-use Rattle.page_markup.specs.Tree.{inline_of, block_of, tree_blocks, tree_from}
+use Rattle.page_markup.specs.Tree.{inline_of, tree_blocks, tree_from}
 use Rattle.page_markup.specs.Runs.{lines_from, items_then, paragraph_then, list_block, paragraph_block}
 use Rattle.page_markup.proofs.Places.{distance_here, distance_on, distance_within, drop_drop}
 use Rattle.page_markup.proofs.Cuts.{begins_one}
@@ -202,8 +201,8 @@ pub item_more : (ps qs : List Inline) (text t : Bytes) (end next : ℕ) → next
     → items_then qs (lines_from (drop (next + 1) text)) ≡ items_then ps (lines_from (drop (end + 1) text))
 item_more ps qs text t end next e k w =
     sym (line_more (items_then ps) text (end + 1) next (items_same ps) e
-        ∙ ap (λ l. items_then ps (with_front l (lines_from (drop (next + 1) text)))) k ∙ items_go ps t (lines_from (drop (next + 1) text))
-        ∙ ap (λ us. items_then us (lines_from (drop (next + 1) text))) (sym w))
+    ∙ ap (λ l. items_then ps (with_front l (lines_from (drop (next + 1) text)))) k ∙ items_go ps t (lines_from (drop (next + 1) text))
+    ∙ ap (λ us. items_then us (lines_from (drop (next + 1) text))) (sym w))
 
 items_stop : (ps : List Inline) (text : Bytes) (end next : ℕ) → next ≡ next_place feed (end + 1) text → IsNoItem (line_of (line_between text (end + 1) next))
     → items_then ps (lines_from (drop (end + 1) text)) ≡ list_block ps ∷ tree_from (drop (end + 1) text)

@@ -1,8 +1,7 @@
 -- What a line of a text is, as the code holds it.
-use Rattle.std.specs.Prelude.{ℕ, ◌+◌, ◌≤◌, ◌<◌, ◌≡◌, length, take, drop, Option, Some, None}
+use Rattle.std.specs.Prelude.{ℕ, ◌≤◌, ◌≡◌, length}
 use Rattle.wiki_model.specs.Bytes.{Bytes}
 use Rattle.wiki_model.specs.Html.{line_of, Blank, HeadingLine, ItemLine, PlainLine}
-use Rattle.page_markup.specs.Marks.{distance}
 use Rattle.page_markup.specs.declared.lines.Line.{Line}
 use Rattle.page_markup.specs.declared.lines.Line.TheVariants as lines
 

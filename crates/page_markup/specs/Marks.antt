@@ -1,5 +1,5 @@
 -- The marks that can be used in a text, at each of its places.
-use Rattle.std.specs.Prelude.{ℕ, suc, ◌+◌, ◌≤◌, ◌≡◌, List, [], ◌∷◌, ◌++◌, length, drop, Option, Some, None, option_map, option_and_then, if◌then◌else◌, codes}
+use Rattle.std.specs.Prelude.{ℕ, suc, ◌+◌, ◌≤◌, ◌≡◌, List, [], ◌∷◌, ◌++◌, length, drop, Option, Some, None, if◌then◌else◌, codes}
 use Rattle.wiki_model.specs.Bytes.{Bytes, begins}
 use Rattle.wiki_model.specs.Titles.{Title, title_of}
 use Rattle.wiki_model.specs.Html.{enclosed, bracketed, target_and_label, ok_of, template_named}

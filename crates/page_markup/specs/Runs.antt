@@ -1,5 +1,5 @@
 -- A list or a paragraph whose first lines are read: the lines that follow may go on with it.
-use Rattle.std.specs.Prelude.{ℕ, List, [], ◌∷◌, ◌++◌, map}
+use Rattle.std.specs.Prelude.{List, [], ◌∷◌, ◌++◌, map}
 use Rattle.wiki_model.specs.Bytes.{Bytes, pieces, line_feed}
 use Rattle.wiki_model.specs.Html.{Items, blocks_of, line_of}
 use Rattle.wiki_model.specs.Html as html

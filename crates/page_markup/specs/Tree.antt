@@ -1,5 +1,5 @@
 -- The tree of a text: its blocks, and the marks of each text inside them.
-use Rattle.std.specs.Prelude.{ℕ, List, [], ◌∷◌, map}
+use Rattle.std.specs.Prelude.{List, [], ◌∷◌, map}
 use Rattle.wiki_model.specs.Bytes.{Bytes, pieces, line_feed}
 use Rattle.wiki_model.specs.Titles.{Text}
 use Rattle.wiki_model.specs.Html.{Gap, Items, blocks_of, line_of}
@@ -7,7 +7,6 @@ use Rattle.wiki_model.specs.Html as html
 use Rattle.page_markup.specs.Marks.{marks_from}
 use Rattle.page_markup.specs.declared.inline.Inline.{Inline}
 use Rattle.page_markup.specs.declared.blocks.Block.{Block}
-use Rattle.page_markup.specs.declared.blocks.BlockKind.{BlockKind}
 use Rattle.page_markup.specs.declared.blocks.BlockKind.TheVariants.{Heading, List as ListOf, Paragraph}
 use Rattle.page_markup.specs.declared.blocks.Tree.{Tree}
 

@@ -39,7 +39,10 @@ fn whole_block(alloc: Global, kind: BlockKind, text: &str) -> Result<Block, Allo
 {
     let mut parts = Vec::new(alloc);
     parts.push(inline::read(alloc, text)?)?;
-    Ok(Block { kind, parts: Listed::new(parts) })
+    Ok(Block {
+        kind,
+        parts: Listed::new(parts),
+    })
 }
 
 /// Adds the next item of a list.
@@ -53,7 +56,12 @@ fn push_item(alloc: Global, items: &mut Vec<Inline>, text: &str) -> Result<(), A
 
 /// Adds the items of the list whose first line ends at the place. Answers where its last line ends.
 #[tactic(auto, using(crate::proofs::Trees::item_more, crate::proofs::Trees::items_last, crate::proofs::Trees::items_to_blank, crate::proofs::Trees::items_to_heading, crate::proofs::Trees::items_to_plain))]
-fn read_items(alloc: Global, items: &mut Vec<Inline>, text: &str, end: usize) -> Result<usize, AllocError>
+fn read_items(
+    alloc: Global,
+    items: &mut Vec<Inline>,
+    text: &str,
+    end: usize,
+) -> Result<usize, AllocError>
     requires small { length text.now ≤ 65536 }
     requires within { end ≤ length text.now }
     requires next { end < length text.now → IsCharBoundary text.now (end + 1) }
@@ -107,7 +115,12 @@ fn paragraph_end(text: &str, from: usize, end: usize) -> usize
 
 /// Adds the block that begins at the place, if one does. Answers where the line after it begins.
 #[tactic(auto, using(crate::proofs::Trees::blank_goes, crate::proofs::Trees::heading_goes, crate::proofs::Trees::list_goes, crate::proofs::Trees::paragraph_goes))]
-fn push_block(alloc: Global, blocks: &mut Vec<Block>, text: &str, at: usize) -> Result<usize, AllocError>
+fn push_block(
+    alloc: Global,
+    blocks: &mut Vec<Block>,
+    text: &str,
+    at: usize,
+) -> Result<usize, AllocError>
     requires within { at < length text.now }
     requires small { length text.now ≤ 65536 }
     requires cut { IsCharBoundary text.now at }
@@ -126,7 +139,10 @@ fn push_block(alloc: Global, blocks: &mut Vec<Block>, text: &str, at: usize) -> 
             let mut items = Vec::new(alloc);
             push_item(alloc, &mut items, item)?;
             let last = read_items(alloc, &mut items, text, end)?;
-            blocks.push(Block { kind: BlockKind::List, parts: Listed::new(items) })?;
+            blocks.push(Block {
+                kind: BlockKind::List,
+                parts: Listed::new(items),
+            })?;
             Ok(last + 1)
         }
         Line::Plain => {
@@ -147,5 +163,7 @@ pub fn read_tree(alloc: Global, text: &str) -> Result<Tree, AllocError>
     while at < text.len() {
         at = push_block(alloc, &mut blocks, text, at)?;
     }
-    Ok(Tree { blocks: Listed::new(blocks) })
+    Ok(Tree {
+        blocks: Listed::new(blocks),
+    })
 }

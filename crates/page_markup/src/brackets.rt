@@ -126,7 +126,14 @@ fn read_name(alloc: Global, names: Names, inner: &str) -> Result<Option<Title>, 
 
 /// Adds the mark of these brackets, where one can be used at the place. Answers the next place of the closing ones.
 #[tactic(auto, using(crate::proofs::Places::brackets_found, crate::proofs::Places::brackets_unnamed, crate::proofs::Places::brackets_long, crate::proofs::Places::brackets_open))]
-pub fn read_brackets(alloc: Global, marks: &mut Vec<Mark>, text: &str, names: Names, at: usize, known: usize) -> Result<usize, AllocError>
+pub fn read_brackets(
+    alloc: Global,
+    marks: &mut Vec<Mark>,
+    text: &str,
+    names: Names,
+    at: usize,
+    known: usize,
+) -> Result<usize, AllocError>
     requires within { at ≤ length text.now }
     requires small { length text.now ≤ 65536 }
     requires remembered { Remembers (closing_of names) text.now (at + 2) known }
@@ -142,7 +149,12 @@ pub fn read_brackets(alloc: Global, marks: &mut Vec<Mark>, text: &str, names: Na
         return Ok(close);
     }
     if let Some(title) = read_name(alloc, names, part(text, start, close))? {
-        marks.push(Mark { place: at as u32, rule: names.rule(), close: close as u32, title: Some(title) })?;
+        marks.push(Mark {
+            place: at as u32,
+            rule: names.rule(),
+            close: close as u32,
+            title: Some(title),
+        })?;
     }
     Ok(close)
 }

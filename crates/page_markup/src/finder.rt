@@ -36,5 +36,9 @@ pub fn next_place(text: &str, mark: &[u8], known: usize, from: usize) -> usize
     ensures place { result ≡ next_place mark.now from text.now }
     ensures remembers { Remembers mark.now text.now from result }
 {
-    if from <= known { known } else { find_from(text, mark, from) }
+    if from <= known {
+        known
+    } else {
+        find_from(text, mark, from)
+    }
 }

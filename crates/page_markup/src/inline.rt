@@ -3,9 +3,8 @@ ghost use Rattle.std.specs.Prelude.{◌≡◌, ◌≤◌, ◌<◌, ◌+◌, ℕ,
 ghost use Rattle.page_markup.specs.Marks.{quote_marks, Remembers, marks_from, marks_here, all_quotes, IsKnown};
 ghost use Rattle.page_markup.specs.Tree.{inline_of};
 
-use crate::brackets;
 use crate::brackets::Names;
-use crate::finder;
+use crate::{brackets, finder};
 use farm_base::{Letters, Listed};
 use std::alloc::{AllocError, Global};
 use wiki_titles::Title;
@@ -31,7 +30,14 @@ pub struct Inline {
 
 /// Adds the mark of this kind of quotes, where one can be used at the place. Answers the next place of such quotes.
 #[tactic(auto, using(crate::proofs::Places::quotes_found, crate::proofs::Places::quotes_missed))]
-fn read_quotes(marks: &mut Vec<Mark>, text: &str, quotes: &[u8], rule: u8, at: usize, known: usize) -> Result<usize, AllocError>
+fn read_quotes(
+    marks: &mut Vec<Mark>,
+    text: &str,
+    quotes: &[u8],
+    rule: u8,
+    at: usize,
+    known: usize,
+) -> Result<usize, AllocError>
     requires within { at < length text.now }
     requires small { length text.now ≤ 65536 }
     requires some { 0 < length quotes.now }
@@ -49,7 +55,12 @@ fn read_quotes(marks: &mut Vec<Mark>, text: &str, quotes: &[u8], rule: u8, at: u
     }
     let close = finder::next_place(text, quotes, known, inner + 1);
     if close < text.len() {
-        marks.push(Mark { place: at as u32, rule, close: close as u32, title: None })?;
+        marks.push(Mark {
+            place: at as u32,
+            rule,
+            close: close as u32,
+            title: None,
+        })?;
     }
     Ok(close)
 }
@@ -66,7 +77,12 @@ pub struct Known {
 
 /// Adds the marks of quotes that can be used at the place.
 #[tactic(auto, using(crate::proofs::Places::known_on))]
-fn read_all_quotes(marks: &mut Vec<Mark>, text: &str, at: usize, known: Known) -> Result<Known, AllocError>
+fn read_all_quotes(
+    marks: &mut Vec<Mark>,
+    text: &str,
+    at: usize,
+    known: Known,
+) -> Result<Known, AllocError>
     requires within { at < length text.now }
     requires small { length text.now ≤ 65536 }
     requires known { IsKnown text.now at known }
@@ -76,12 +92,23 @@ fn read_all_quotes(marks: &mut Vec<Mark>, text: &str, at: usize, known: Known) -
     let five = read_quotes(marks, text, b"'''''", 1, at, known.five)?;
     let three = read_quotes(marks, text, b"'''", 2, at, known.three)?;
     let two = read_quotes(marks, text, b"''", 3, at, known.two)?;
-    Ok(Known { five, three, two, ..known })
+    Ok(Known {
+        five,
+        three,
+        two,
+        ..known
+    })
 }
 
 /// Adds the marks that can be used at the place.
 #[tactic(auto, using(crate::proofs::Places::known_on, crate::proofs::Firsts::no_marks))]
-fn read_place(alloc: Global, marks: &mut Vec<Mark>, text: &str, at: usize, known: Known) -> Result<Known, AllocError>
+fn read_place(
+    alloc: Global,
+    marks: &mut Vec<Mark>,
+    text: &str,
+    at: usize,
+    known: Known,
+) -> Result<Known, AllocError>
     requires within { at < length text.now }
     requires small { length text.now ≤ 65536 }
     requires known { IsKnown text.now at known }
@@ -92,10 +119,24 @@ fn read_place(alloc: Global, marks: &mut Vec<Mark>, text: &str, at: usize, known
     if first == b'\'' {
         read_all_quotes(marks, text, at, known)
     } else if first == b'[' {
-        let brackets = brackets::read_brackets(alloc, marks, text, Names::Links, at, known.brackets)?;
+        let brackets = brackets::read_brackets(
+            alloc,
+            marks,
+            text,
+            Names::Links,
+            at,
+            known.brackets,
+        )?;
         Ok(Known { brackets, ..known })
     } else if first == b'{' {
-        let braces = brackets::read_brackets(alloc, marks, text, Names::Templates, at, known.braces)?;
+        let braces = brackets::read_brackets(
+            alloc,
+            marks,
+            text,
+            Names::Templates,
+            at,
+            known.braces,
+        )?;
         Ok(Known { braces, ..known })
     } else {
         Ok(known)
@@ -108,7 +149,13 @@ fn read_marks(alloc: Global, text: &str) -> Result<Vec<Mark>, AllocError>
     ensures { IfOk result (λ marks. marks.items ≡ marks_from 0 text.now) }
 {
     let mut marks = Vec::new(alloc);
-    let mut known = Known { five: 0, three: 0, two: 0, brackets: 0, braces: 0 };
+    let mut known = Known {
+        five: 0,
+        three: 0,
+        two: 0,
+        brackets: 0,
+        braces: 0,
+    };
     for at in 0..text.len() {
         known = read_place(alloc, &mut marks, text, at, known)?;
     }
@@ -122,5 +169,8 @@ pub fn read(alloc: Global, text: &str) -> Result<Inline, AllocError>
 {
     let letters = String::from_str(alloc, text)?;
     let marks = read_marks(alloc, text)?;
-    Ok(Inline { text: Letters::new(letters), marks: Listed::new(marks) })
+    Ok(Inline {
+        text: Letters::new(letters),
+        marks: Listed::new(marks),
+    })
 }

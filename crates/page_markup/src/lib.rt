@@ -18,12 +18,11 @@ ghost use Rattle.wiki_model.specs.Bytes.{replaced, line_feed, space};
 ghost use Rattle.page_markup.specs.Names.{AreNames, names_from};
 ghost use Rattle.page_markup.specs.Tree.{inline_of, tree_of};
 
+pub use blocks::{Block, BlockKind, Tree};
 use farm_base::Memory;
+pub use inline::{Inline, Mark};
 use std::alloc::Global;
 use wiki_titles::{Text, Title};
-
-pub use blocks::{Block, BlockKind, Tree};
-pub use inline::{Inline, Mark};
 
 /// The tree of the text.
 pub fn parse(alloc: Global, text: &Text) -> Result<Tree, Memory>

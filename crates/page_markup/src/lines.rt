@@ -134,10 +134,15 @@ fn line_of(line: &str) -> Line<'_>
         return Line::Blank;
     }
     if let Some((level, middle)) = heading(line) {
-        return Line::Heading { level: level as u8, middle };
+        return Line::Heading {
+            level: level as u8,
+            middle,
+        };
     }
     match line.strip_prefix('*') {
-        Some(rest) => Line::Item { text: trimmed(rest) },
+        Some(rest) => Line::Item {
+            text: trimmed(rest),
+        },
         None => Line::Plain,
     }
 }

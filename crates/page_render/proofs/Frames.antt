@@ -1,11 +1,10 @@
 -- Blocks and the page around them.
-use Rattle.std.proofs.Common.{zero, suc, [], ◌∷◌, ◌++◌, List, length, drop, map, ◌≡◌, ℕ, ◌≤◌, ◌<◌, ◌+◌, Bool, true, false, refl, arith, ap, sym, ◌∙◌, append_assoc, append-nil, get_or, min, subst}
-use Rattle.std.specs.Prelude.{codes, Option, Some, None, if◌then◌else◌}
+use Rattle.std.proofs.Common.{suc, [], ◌∷◌, ◌++◌, List, length, drop, map, ◌≡◌, ℕ, ◌≤◌, ◌<◌, ◌+◌, Bool, true, false, refl, arith, ap, sym, ◌∙◌, append_assoc, append-nil, get_or, subst}
+use Rattle.std.specs.Prelude.{codes, if◌then◌else◌}
 use Rattle.std.proofs.Math.Seq.{drop-cons}
 use Rattle.wiki_model.specs.Bytes.{Bytes, pieces, line_feed}
 use Rattle.wiki_model.specs.Html.{Reader, Reading, Line, Blank, HeadingLine, ItemLine, PlainLine, Gap, Items, element, each_between, between, block, blocks, blocks_of, with_front, with_item, with_line, line_of, is_heading, heading_level, middle_of, heading_tag, line_end}
 use Rattle.wiki_model.specs.Html as html
-use Rattle.page_markup.specs.Marks.{marks_from}
 use Rattle.page_markup.specs.declared.inline.Inline.{Inline}
 use Rattle.page_markup.specs.declared.blocks.Block.{Block}
 use Rattle.page_markup.specs.declared.blocks.BlockKind.TheVariants.{Heading, List as ListOf, Paragraph}
@@ -22,7 +21,7 @@ one_between read opening closing text n = ap (λ h. let r : Reading = record { h
 
 then_others : (read : Reader) (bs : List Block) (cs : List html.Block) (first other : Reading) → first ≡ other → ((n : ℕ) → read_blocks read bs n ≡ blocks read n cs)
     → (let r : Reading = record { html = first.html ++ (read_blocks read bs first.included).html; included = (read_blocks read bs first.included).included } in r)
-        ≡ (record { html = other.html ++ (blocks read other.included cs).html; included = (blocks read other.included cs).included })
+    ≡ (record { html = other.html ++ (blocks read other.included cs).html; included = (blocks read other.included cs).included })
 then_others read bs cs first other e h =
     ap (λ f. let r : Reading = record { html = f.html ++ (read_blocks read bs f.included).html; included = (read_blocks read bs f.included).included } in r) e
     ∙ ap (λ g. let r : Reading = record { html = other.html ++ g.html; included = g.included } in r) (h other.included)
@@ -106,7 +105,7 @@ pub part_goes : (read : Reader) (opening closing old new : Bytes) (parts : List 
     → m ≡ (read n (get_or parts i d).text).included
     → new ≡ ((old ++ opening) ++ (read n (get_or parts i d).text).html) ++ closing
     → (new ++ (each_between read opening closing (texts_of (drop (i + 1) parts)) m).html ≡ old ++ (each_between read opening closing (texts_of (drop i parts)) n).html)
-        × ((each_between read opening closing (texts_of (drop (i + 1) parts)) m).included ≡ (each_between read opening closing (texts_of (drop i parts)) n).included)
+    × ((each_between read opening closing (texts_of (drop (i + 1) parts)) m).included ≡ (each_between read opening closing (texts_of (drop i parts)) n).included)
 part_goes read opening closing old new parts d i n m l e w =
     let p = get_or parts i d in
     let rest = drop (suc i) parts in
@@ -114,13 +113,14 @@ part_goes read opening closing old new parts d i n m l e w =
     let front : drop i parts ≡ p ∷ rest = drop-cons parts i d l in
     let same : drop (i + 1) parts ≡ rest = ap (λ k. drop k parts) (let z : i + 1 ≡ suc i = omega arith in z) in
     let left : each_between read opening closing (texts_of (drop (i + 1) parts)) m ≡ each_between read opening closing (texts_of rest) (read n p.text).included =
-        ap (λ ps. each_between read opening closing (texts_of ps) m) same ∙ ap (each_between read opening closing (texts_of rest)) e in
+    ap (λ ps. each_between read opening closing (texts_of ps) m) same ∙ ap (each_between read opening closing (texts_of rest)) e in
     let whole : each_between read opening closing (texts_of (drop i parts)) n ≡ each_between read opening closing (texts_of (p ∷ rest)) n =
-        ap (λ ps. each_between read opening closing (texts_of ps) n) front in
+    ap (λ ps. each_between read opening closing (texts_of ps) n) front in
     let tail = (each_between read opening closing (texts_of rest) (read n p.text).included).html in
-    let j : (((old ++ opening) ++ c) ++ closing) ++ tail ≡ old ++ (element opening closing c ++ tail) = simp append_assoc in
-    (ap (λ x. x ++ (each_between read opening closing (texts_of (drop (i + 1) parts)) m).html) w ∙ ap (λ r. (((old ++ opening) ++ c) ++ closing) ++ r.html) left ∙ j ∙ ap (λ r. old ++ r.html) (sym whole),
-     ap (λ r. r.included) left ∙ ap (λ r. r.included) (sym whole))
+    let j : (((old ++ opening) ++ c) ++ closing) ++ tail ≡ old ++ (element opening closing c ++ tail) = simp append_assoc in (
+      ap (λ x. x ++ (each_between read opening closing (texts_of (drop (i + 1) parts)) m).html) w ∙ ap (λ r. (((old ++ opening) ++ c) ++ closing) ++ r.html) left ∙ j ∙ ap (λ r. old ++ r.html) (sym whole),
+      ap (λ r. r.included) left ∙ ap (λ r. r.included) (sym whole),
+    )
 
 pub part_read : (parts : List Inline) (d : Inline) (i : ℕ) → i < length parts → AreRead (drop i parts) → IsRead (get_or parts i d) × AreRead (drop (i + 1) parts)
 part_read parts d i l h =

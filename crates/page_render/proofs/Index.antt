@@ -1,5 +1,5 @@
 -- The index of the template pages.
-use Rattle.std.proofs.Common.{zero, suc, [], ◌∷◌, List, length, drop, ◌≡◌, ℕ, ◌≤◌, ◌<◌, ◌+◌, ◌-◌, Bool, true, false, refl, arith, ap, sym, ◌∙◌, Some, None, get_or, cond}
+use Rattle.std.proofs.Common.{zero, suc, [], ◌∷◌, List, length, drop, ◌≡◌, ℕ, ◌<◌, ◌+◌, Bool, true, false, refl, arith, ap, sym, ◌∙◌, Some, get_or, cond}
 use Rattle.std.specs.Prelude.{Option, option_map, option_and_then, if◌then◌else◌}
 use Rattle.std.specs.List.{slice_get}
 use Rattle.std.specs.Str.{bytes_eq}

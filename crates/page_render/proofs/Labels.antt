@@ -1,5 +1,5 @@
 -- What is shown for a link.
-use Rattle.std.proofs.Common.{zero, suc, [], ◌∷◌, ◌++◌, List, length, take, drop, ◌≡◌, ℕ, ◌≤◌, ◌<◌, ◌+◌, ◌-◌, Bool, true, false, refl, arith, ap, sym, ◌∙◌, inl, inr, ◌⊎◌, append_assoc}
+use Rattle.std.proofs.Common.{[], ◌∷◌, ◌++◌, length, take, drop, ◌≡◌, ℕ, ◌≤◌, ◌<◌, ◌+◌, true, false, refl, arith, ap, sym, ◌∙◌, inl, inr, ◌⊎◌, append_assoc}
 use Rattle.std.specs.Prelude.{codes, if◌then◌else◌}
 use Rattle.std.proofs.lemmas.List.{length-drop}
 use Rattle.std.proofs.Math.Seq.{take-length}
@@ -7,7 +7,7 @@ use Rattle.std.proofs.Math.Nat.{eq-or-lt_of_le}
 use Rattle.wiki_model.specs.Bytes.{Bytes, is_empty, begins}
 use Rattle.wiki_model.specs.Html.{target_and_label}
 use Rattle.page_markup.specs.Marks.{distance, next_place}
-use Rattle.page_markup.proofs.Places.{drop_drop, distance_within, distance_here, place_on, cut_none, cut_some}
+use Rattle.page_markup.proofs.Places.{distance_within, distance_here, place_on, cut_none, cut_some}
 
 empty_of : (t : Bytes) → length t ≡ 0 → is_empty t ≡ true
 empty_of [] e = refl

@@ -1,18 +1,18 @@
 -- The marks of a text, read in order, give the mark of the definition.
-use Rattle.std.proofs.Common.{zero, suc, [], ◌∷◌, ◌++◌, List, length, take, drop, ◌≡◌, ℕ, ◌≤◌, ◌<◌, ◌+◌, ◌-◌, Bool, true, false, refl, arith, ap, sym, ◌∙◌, Some, None, nat_le, nat_eq, nat_lt, subst, inl, inr, ◌⊎◌, get_or, eq-eqb, append_assoc}
-use Rattle.std.specs.Prelude.{Option, codes, option_map, option_and_then, if◌then◌else◌, unwrap_or, ◌&&◌, ◌==◌}
+use Rattle.std.proofs.Common.{suc, [], ◌∷◌, ◌++◌, List, length, take, drop, ◌≡◌, ℕ, ◌≤◌, ◌<◌, ◌+◌, ◌-◌, Bool, true, false, refl, arith, ap, sym, ◌∙◌, Some, None, nat_le, nat_eq, subst, inl, inr, ◌⊎◌, get_or, eq-eqb, append_assoc}
+use Rattle.std.specs.Prelude.{Option, codes, option_map, option_and_then, if◌then◌else◌, unwrap_or, ◌&&◌}
 use Rattle.std.proofs.lemmas.List.{length-drop}
 use Rattle.std.proofs.lemmas.Bool.Decides.{nat_tests}
 use Rattle.std.proofs.Math.Seq.{drop-cons}
 use Rattle.std.proofs.Math.Nat.{eq-or-lt_of_le}
 use Rattle.wiki_model.specs.Bytes.{Bytes, begins, cut_at}
-use Rattle.wiki_model.specs.Titles.{Title, Text, title_of}
+use Rattle.wiki_model.specs.Titles.{Title, Text}
 use Rattle.wiki_model.specs.Html.{BoldItalic, Bold, Italic, Templates, two, enclosed, cut_after_one, bracketed, if_short, link, target_and_label, ok_of, template_named, include, or_else, mark_at}
 use Rattle.wiki_model.specs.Html as html
 use Rattle.page_markup.specs.declared.inline.Mark.{Mark}
 use Rattle.page_markup.specs.Marks.{distance, marks_from, marks_here, quote_marks, quote_marks_of, bracket_marks, bracket_marks_of, named_marks_of, mark_with, link_target}
 use Rattle.page_markup.proofs.Places.{marks_on, drop_drop, distance_within, cut_none, cut_some, length_taken}
-use Rattle.page_render.specs.Use.{between, width_of, quotes_used, as_used, used_inside, named_used, include_used, pick_at}
+use Rattle.page_render.specs.Use.{between, as_used, include_used, pick_at}
 use Rattle.page_render.proofs.Taken.{clip, clip_kept, clip_lost, yes_le, no_le, at_most_or_past, enclosed_front, bracketed_front}
 
 abbrev pub pick : (Mark → Option html.Mark) → List Mark → Option html.Mark
@@ -79,7 +79,7 @@ bracketed_parts : (opening closing s : Bytes) → Parts (length opening) (length
 bracketed_parts opening closing s =
     parts_if (length opening) (length closing) s (begins opening s) (option_and_then if_short (cut_at closing (drop (length opening) s)))
     (parts_short (length opening) (length closing) s (cut_at closing (drop (length opening) s))
-        (parts_on (length opening) (length closing) s (cut_at closing (drop (length opening) s)) (cut_parts closing (drop (length opening) s))))
+    (parts_on (length opening) (length closing) s (cut_at closing (drop (length opening) s)) (cut_parts closing (drop (length opening) s))))
 
 -- one kind of marks
 abbrev pub Inside : (at to w : ℕ) (text : Bytes) (l : ℕ) → (Bytes → Bytes → Option html.Mark) → Option html.Mark
@@ -92,11 +92,11 @@ inside_by at to w text p g o h (inl fit) =
     let l = length p.0 in
     let whole : Inside at to w text l g ≡ g (between (at + w) (at + w + l) text) (between (at + w + l + w) to text) = rw (yes_le (at + w + l + w) to fit) refl in
     let inner : between (at + w) (at + w + l) text ≡ p.0 =
-        ap (λ n. take n (drop (at + w) text)) (let z : at + w + l - (at + w) ≡ l = omega arith in z) ∙ ap (take l) (sym (drop_drop w at text)) ∙ sym h.0 in
+    ap (λ n. take n (drop (at + w) text)) (let z : at + w + l - (at + w) ≡ l = omega arith in z) ∙ ap (take l) (sym (drop_drop w at text)) ∙ sym h.0 in
     let rest : between (at + w + l + w) to text ≡ take (to - at - (w + l + w)) p.1 =
-        ap (λ n. take n (drop (at + w + l + w) text)) (let z : to - (at + w + l + w) ≡ to - at - (w + l + w) = omega arith in z)
-        ∙ ap (λ n. take (to - at - (w + l + w)) (drop n text)) (let z : at + w + l + w ≡ at + (w + l + w) = omega arith in z)
-        ∙ ap (take (to - at - (w + l + w))) (sym (drop_drop (w + l + w) at text) ∙ sym h.1) in
+    ap (λ n. take n (drop (at + w + l + w) text)) (let z : to - (at + w + l + w) ≡ to - at - (w + l + w) = omega arith in z)
+    ∙ ap (λ n. take (to - at - (w + l + w)) (drop n text)) (let z : at + w + l + w ≡ at + (w + l + w) = omega arith in z)
+    ∙ ap (take (to - at - (w + l + w))) (sym (drop_drop (w + l + w) at text) ∙ sym h.1) in
     whole ∙ ap (λ x. g x (between (at + w + l + w) to text)) inner ∙ ap (g p.0) rest
     ∙ sym (ap (option_and_then (λ q. g q.0 q.1)) (clip_kept w w (to - at) l p.0 p.1 refl (omega (arith, fit))))
 inside_by at to w text p g o h (inr miss) =
@@ -197,7 +197,7 @@ unread_all templates n at to text (Some p) = unread templates n at to text p.0 (
 
 pick_include : (templates : Templates) (b : Bool) (n at to : ℕ) (text : Bytes) → at ≤ to → to ≤ length text
     → pick (as_used templates b n to text) (bracket_marks 5 (codes "{{") (codes "}}") template_named at (drop at text))
-        ≡ (if b then option_and_then (include templates n) (bracketed (codes "{{") (codes "}}") (between at to text)) else None)
+    ≡ (if b then option_and_then (include templates n) (bracketed (codes "{{") (codes "}}") (between at to text)) else None)
 pick_include templates false n at to text o h = unread_all templates n at to text (bracketed (codes "{{") (codes "}}") (drop at text))
 pick_include templates true n at to text o h =
     kind (as_used templates true n to text) at to 2 text (bracketed (codes "{{") (codes "}}") (drop at text)) (bracket_marks_of 5 at template_named) (include_of templates n) o (bracketed_parts (codes "{{") (codes "}}") (drop at text)) refl
@@ -207,7 +207,7 @@ pick_include templates true n at to text o h =
 -- the marks of a place, one rule after another
 flat_marks : (at : ℕ) (s : Bytes)
     → marks_here at s ≡ quote_marks 1 (codes "'''''") at s ++ (quote_marks 2 (codes "'''") at s ++ (quote_marks 3 (codes "''") at s
-        ++ (bracket_marks 4 (codes "[[") (codes "]]") link_target at s ++ bracket_marks 5 (codes "{{") (codes "}}") template_named at s)))
+    ++ (bracket_marks 4 (codes "[[") (codes "]]") link_target at s ++ bracket_marks 5 (codes "{{") (codes "}}") template_named at s)))
 flat_marks at s =
     let q1 = quote_marks 1 (codes "'''''") at s in
     let q2 = quote_marks 2 (codes "'''") at s in
@@ -301,17 +301,17 @@ between_on at to text h k = front_on at to text h k
 -- what the marks of a place give is the mark of the definition
 pub mark_is : (templates : Templates) (b : Bool) (n at to : ℕ) (text : Bytes) → at < to → to ≤ length text
     → unwrap_or (pick_at at (as_used templates b n to text) (marks_from at (drop at text))) (html.Letter (get_or text at 0) (between (at + 1) to text))
-        ≡ mark_at templates b n (get_or text at 0) (between (at + 1) to text)
+    ≡ mark_at templates b n (get_or text at 0) (between (at + 1) to text)
 mark_is templates b n at to text h k =
     let f = as_used templates b n to text in
     let here = marks_here at (drop at text) in
     let later = marks_from (at + 1) (drop (at + 1) text) in
     let letter = html.Letter (get_or text at 0) (between (at + 1) to text) in
     let whole : pick_at at f (marks_from at (drop at text)) ≡ chain templates b n (get_or text at 0 ∷ between (at + 1) to text) =
-        ap (pick_at at f) (marks_on at text (omega (arith, h, k)))
-        ∙ pick_at_all at f here later (here_at at (drop at text))
-        ∙ ap (or_else (pick f here)) (past_none at (at + 1) f (drop (at + 1) text) (omega arith))
-        ∙ or_none (pick f here)
-        ∙ pick_here templates b n at to text (omega (arith, h)) k
-        ∙ ap (chain templates b n) (front_on at to text h k) in
+    ap (pick_at at f) (marks_on at text (omega (arith, h, k)))
+    ∙ pick_at_all at f here later (here_at at (drop at text))
+    ∙ ap (or_else (pick f here)) (past_none at (at + 1) f (drop (at + 1) text) (omega arith))
+    ∙ or_none (pick f here)
+    ∙ pick_here templates b n at to text (omega (arith, h)) k
+    ∙ ap (chain templates b n) (front_on at to text h k) in
     ap (λ o. unwrap_or o letter) whole

@@ -1,10 +1,10 @@
 -- One place of a text read, by what is used there.
-use Rattle.std.proofs.Common.{zero, suc, [], ◌∷◌, ◌++◌, List, length, take, drop, ◌≡◌, ℕ, ◌≤◌, ◌<◌, ◌+◌, ◌-◌, Bool, true, false, refl, arith, ap, sym, ◌∙◌, Some, None, nat_eq, nat_lt, subst, get_or, append_assoc, append-nil}
-use Rattle.std.specs.Prelude.{Option, codes, unwrap_or, if◌then◌else◌, ◌==◌}
+use Rattle.std.proofs.Common.{zero, suc, [], ◌∷◌, ◌++◌, List, length, take, drop, ◌≡◌, ℕ, ◌≤◌, ◌<◌, ◌+◌, ◌-◌, Bool, true, false, refl, arith, ap, sym, ◌∙◌, Some, None, nat_eq, nat_lt, get_or, append_assoc, append-nil}
+use Rattle.std.specs.Prelude.{Option, codes, unwrap_or}
 use Rattle.std.proofs.lemmas.Bool.Decides.{nat_tests}
 use Rattle.std.proofs.Math.Seq.{take-length}
 use Rattle.wiki_model.specs.Bytes.{Bytes, replaced, line_feed, space}
-use Rattle.wiki_model.specs.Titles.{Title, Text, url_of}
+use Rattle.wiki_model.specs.Titles.{Text, url_of}
 use Rattle.wiki_model.specs.Html.{Templates, Reader, Reading, mark_at, read_mark, then_rest, inline, escaped, escaped_byte, element}
 use Rattle.wiki_model.specs.Html as html
 use Rattle.page_markup.specs.declared.inline.Mark.{Mark}
@@ -38,14 +38,14 @@ inline_on templates (suc d) n c rest =
 pub step_is : (templates : Templates) (depth n at to : ℕ) (text : Bytes) (marks : List Mark) (found : Option html.Mark) → at < to → to ≤ length text
     → marks ≡ marks_from at (drop at text) → pick_at at (as_used templates (nat_lt 0 depth) n to text) marks ≡ found
     → inline templates depth n (between at to text)
-        ≡ read_mark (inline templates depth) (inside templates depth) n (unwrap_or found (html.Letter (get_or text at 0) (between (at + 1) to text)))
+    ≡ read_mark (inline templates depth) (inside templates depth) n (unwrap_or found (html.Letter (get_or text at 0) (between (at + 1) to text)))
 step_is templates depth n at to text marks found h k m e =
     ap (inline templates depth n) (between_on at to text h k)
     ∙ inline_on templates depth n (get_or text at 0) (between (at + 1) to text)
     ∙ ap (read_mark (inline templates depth) (inside templates depth) n)
-        (sym (mark_is templates (nat_lt 0 depth) n at to text h k)
-        ∙ ap (λ o. unwrap_or o (html.Letter (get_or text at 0) (between (at + 1) to text)))
-            (ap (pick_at at (as_used templates (nat_lt 0 depth) n to text)) (sym m) ∙ e))
+    (sym (mark_is templates (nat_lt 0 depth) n at to text h k)
+    ∙ ap (λ o. unwrap_or o (html.Letter (get_or text at 0) (between (at + 1) to text)))
+    (ap (pick_at at (as_used templates (nat_lt 0 depth) n to text)) (sym m) ∙ e))
 
 quotes_read_by : (read include_text : Reader) (n rule : ℕ) (inner rest : Bytes) (a b : Bool) → nat_eq rule 1 ≡ a → nat_eq rule 2 ≡ b
     → read_mark read include_text n (quotes_used rule inner rest) ≡ then_rest read (opening_of rule) (closing_of rule) rest (read n inner)
@@ -65,10 +65,11 @@ between_tags : (old new opening content closing : Bytes) (whole left : Reading) 
     → whole ≡ then_rest read opening closing rest inner → left ≡ read inner.included rest → content ≡ inner.html → new ≡ ((old ++ opening) ++ content) ++ closing
     → GoesOn old new whole left
 between_tags old new opening content closing whole left read rest inner w l c n =
-    let tail = read inner.included rest in
-    (ap (λ x. x ++ left.html) n ∙ ap (λ t. (((old ++ opening) ++ content) ++ closing) ++ t.html) l ∙ ap (λ x. (((old ++ opening) ++ x) ++ closing) ++ tail.html) c
-        ∙ joined old opening inner.html closing tail.html ∙ ap (λ r. old ++ r.html) (sym w),
-     ap (λ t. t.included) l ∙ ap (λ r. r.included) (sym w))
+    let tail = read inner.included rest in (
+      ap (λ x. x ++ left.html) n ∙ ap (λ t. (((old ++ opening) ++ content) ++ closing) ++ t.html) l ∙ ap (λ x. (((old ++ opening) ++ x) ++ closing) ++ tail.html) c
+          ∙ joined old opening inner.html closing tail.html ∙ ap (λ r. old ++ r.html) (sym w),
+      ap (λ t. t.included) l ∙ ap (λ r. r.included) (sym w),
+    )
 
 pub letter_goes : (templates : Templates) (depth n at to : ℕ) (text old new : Bytes) (marks : List Mark) → at < to → to ≤ length text
     → marks ≡ marks_from at (drop at text) → pick_at at (as_used templates (nat_lt 0 depth) n to text) marks ≡ None → new ≡ old ++ escaped_byte (get_or text at 0)

@@ -42,7 +42,10 @@ fn enter(index: &mut BTreeMap<Title, usize>, title: &Title, place: usize) -> Res
 }
 
 /// The places of the pages by their titles; of pages with one title the first counts.
-fn index_of(alloc: Global, templates: &[(Title, Text)]) -> Result<BTreeMap<Title, usize>, AllocError>
+fn index_of(
+    alloc: Global,
+    templates: &[(Title, Text)],
+) -> Result<BTreeMap<Title, usize>, AllocError>
     ensures { IfOk result (λ index. (title : List ℕ) → get bytes_cmp index title ≡ first_place 0 templates.now title) }
 {
     let mut index = BTreeMap::new(alloc);
@@ -82,9 +85,19 @@ pub fn skip_marks(marks: &[Mark], cursor: usize, at: usize) -> usize
 #[derive(Debug, Drop)]
 pub enum Use<'m, 'p> {
     Letter,
-    Quotes { rule: u8, width: usize, close: usize },
-    Link { title: &'m Title, close: usize },
-    Include { text: &'p Text, close: usize },
+    Quotes {
+        rule: u8,
+        width: usize,
+        close: usize,
+    },
+    Link {
+        title: &'m Title,
+        close: usize,
+    },
+    Include {
+        text: &'p Text,
+        close: usize,
+    },
 }
 
 /// The length of a closing mark.
@@ -103,7 +116,14 @@ fn width(rule: u8) -> usize
 }
 
 /// What the mark does within a text that ends at `to`; a letter where it can't be used there.
-fn use_of<'m, 'p>(text: &[u8], mark: &'m Mark, to: usize, reads: bool, pages: &Pages<'p>, included: usize) -> Use<'m, 'p>
+fn use_of<'m, 'p>(
+    text: &[u8],
+    mark: &'m Mark,
+    to: usize,
+    reads: bool,
+    pages: &Pages<'p>,
+    included: usize,
+) -> Use<'m, 'p>
     requires small { included ≤ 262144 }
     ensures bounds { IsUse mark.now.place to included reads result }
     ensures used { IsUsed text.now mark.now.place to result (as_used (known pages.now) reads included to text.now mark.now) }
@@ -115,7 +135,11 @@ fn use_of<'m, 'p>(text: &[u8], mark: &'m Mark, to: usize, reads: bool, pages: &P
         return Use::Letter;
     }
     if mark.rule < 4 {
-        return Use::Quotes { rule: mark.rule, width, close };
+        return Use::Quotes {
+            rule: mark.rule,
+            width,
+            close,
+        };
     }
     match &mark.title {
         None => Use::Letter,
@@ -130,7 +154,10 @@ fn use_of<'m, 'p>(text: &[u8], mark: &'m Mark, to: usize, reads: bool, pages: &P
                 None => Use::Letter,
                 Some(template) => {
                     if included + template.text().len() <= 262_144 {
-                        Use::Include { text: template, close }
+                        Use::Include {
+                            text: template,
+                            close,
+                        }
                     } else {
                         Use::Letter
                     }
@@ -141,7 +168,16 @@ fn use_of<'m, 'p>(text: &[u8], mark: &'m Mark, to: usize, reads: bool, pages: &P
 }
 
 /// What is used at the place.
-pub fn choose<'m, 'p>(text: &[u8], marks: &'m [Mark], cursor: usize, at: usize, to: usize, reads: bool, pages: &Pages<'p>, included: usize) -> Use<'m, 'p>
+pub fn choose<'m, 'p>(
+    text: &[u8],
+    marks: &'m [Mark],
+    cursor: usize,
+    at: usize,
+    to: usize,
+    reads: bool,
+    pages: &Pages<'p>,
+    included: usize,
+) -> Use<'m, 'p>
     requires small { included ≤ 262144 }
     ensures bounds { IsUse at to included reads result }
     ensures used { IsUsed text.now at to result (pick_at at (as_used (known pages.now) reads included to text.now) (drop cursor marks.now)) }

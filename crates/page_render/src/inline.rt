@@ -83,7 +83,12 @@ fn open_link(alloc: Global, out: &mut Vec<u8>, title: &Title) -> Result<(), Allo
     Ok(())
 }
 
-fn write_link(alloc: Global, out: &mut Vec<u8>, title: &Title, inner: &[u8]) -> Result<(), AllocError>
+fn write_link(
+    alloc: Global,
+    out: &mut Vec<u8>,
+    title: &Title,
+    inner: &[u8],
+) -> Result<(), AllocError>
     ensures { IfOk result (λ _. out.new.items ≡ ((out.old.items ++ (codes "<a href=\"/wiki/" ++ url_of title.now ++ codes "\">")) ++ escaped (target_and_label inner.now).1) ++ codes "</a>") }
 {
     open_link(alloc, out, title)?;
@@ -128,7 +133,18 @@ pub struct Next {
 
 /// Writes what stands at the place.
 #[cycle(texts)]
-fn write_place<'p>(alloc: Global, out: &mut Vec<u8>, text: &[u8], marks: &[Mark], cursor: usize, at: usize, to: usize, depth: u8, pages: &Pages<'p>, included: usize) -> Result<Next, AllocError>
+fn write_place<'p>(
+    alloc: Global,
+    out: &mut Vec<u8>,
+    text: &[u8],
+    marks: &[Mark],
+    cursor: usize,
+    at: usize,
+    to: usize,
+    depth: u8,
+    pages: &Pages<'p>,
+    included: usize,
+) -> Result<Next, AllocError>
     requires order { at < to }
     requires within { to ≤ length text.now }
     requires cursor { cursor ≤ length marks.now }
@@ -140,29 +156,69 @@ fn write_place<'p>(alloc: Global, out: &mut Vec<u8>, text: &[u8], marks: &[Mark]
     match choice::choose(text, marks, cursor, at, to, 0 < depth, pages, included) {
         Use::Letter => {
             tags::write_letter(out, text[at])?;
-            Ok(Next { at: at + 1, included })
+            Ok(Next {
+                at: at + 1,
+                included,
+            })
         }
         Use::Quotes { rule, width, close } => {
             out.extend_from_slice(opening(rule))?;
-            let after = write_text(alloc, out, text, marks, cursor, at + width, close, depth, pages, included)?;
+            let after = write_text(
+                alloc,
+                out,
+                text,
+                marks,
+                cursor,
+                at + width,
+                close,
+                depth,
+                pages,
+                included,
+            )?;
             out.extend_from_slice(closing(rule))?;
-            Ok(Next { at: close + width, included: after })
+            Ok(Next {
+                at: close + width,
+                included: after,
+            })
         }
         Use::Link { title, close } => {
             write_link(alloc, out, title, part(text, at + 2, close))?;
-            Ok(Next { at: close + 2, included })
+            Ok(Next {
+                at: close + 2,
+                included,
+            })
         }
-        Use::Include { text: template, close } => {
+        Use::Include {
+            text: template,
+            close,
+        } => {
             let inner = read_line(alloc, template)?;
-            let after = write_part(alloc, out, &inner, depth - 1, pages, included + template.text().len())?;
-            Ok(Next { at: close + 2, included: after })
+            let after = write_part(
+                alloc,
+                out,
+                &inner,
+                depth - 1,
+                pages,
+                included + template.text().len(),
+            )?;
+            Ok(Next {
+                at: close + 2,
+                included: after,
+            })
         }
     }
 }
 
 /// Writes a text by its marks. Answers how many template bytes the page has included by then.
 #[cycle(texts)]
-pub fn write_part<'p>(alloc: Global, out: &mut Vec<u8>, part: &Inline, depth: u8, pages: &Pages<'p>, included: usize) -> Result<usize, AllocError>
+pub fn write_part<'p>(
+    alloc: Global,
+    out: &mut Vec<u8>,
+    part: &Inline,
+    depth: u8,
+    pages: &Pages<'p>,
+    included: usize,
+) -> Result<usize, AllocError>
     requires read { IsRead part.now }
     requires included { included ≤ 262144 }
     ensures bound { IfOk result (λ n. n ≤ 262144) }
@@ -170,13 +226,35 @@ pub fn write_part<'p>(alloc: Global, out: &mut Vec<u8>, part: &Inline, depth: u8
     ensures included { IfOk result (λ n. n ≡ (inline (known pages.now) depth included part.now.text).included) }
 {
     let text = part.text.as_str().as_bytes();
-    let after = write_text(alloc, out, text, part.marks.as_slice(), 0, 0, text.len(), depth, pages, included)?;
+    let after = write_text(
+        alloc,
+        out,
+        text,
+        part.marks.as_slice(),
+        0,
+        0,
+        text.len(),
+        depth,
+        pages,
+        included,
+    )?;
     Ok(after)
 }
 
 /// Writes the text between two places.
 #[cycle(texts)]
-fn write_text<'p>(alloc: Global, out: &mut Vec<u8>, text: &[u8], marks: &[Mark], cursor: usize, from: usize, to: usize, depth: u8, pages: &Pages<'p>, included: usize) -> Result<usize, AllocError>
+fn write_text<'p>(
+    alloc: Global,
+    out: &mut Vec<u8>,
+    text: &[u8],
+    marks: &[Mark],
+    cursor: usize,
+    from: usize,
+    to: usize,
+    depth: u8,
+    pages: &Pages<'p>,
+    included: usize,
+) -> Result<usize, AllocError>
     requires order { from ≤ to }
     requires within { to ≤ length text.now }
     requires cursor { cursor ≤ length marks.now }
@@ -191,7 +269,9 @@ fn write_text<'p>(alloc: Global, out: &mut Vec<u8>, text: &[u8], marks: &[Mark],
     let mut included = included;
     while at < to {
         cursor = choice::skip_marks(marks, cursor, at);
-        let next = write_place(alloc, out, text, marks, cursor, at, to, depth, pages, included)?;
+        let next = write_place(
+            alloc, out, text, marks, cursor, at, to, depth, pages, included,
+        )?;
         at = next.at;
         included = next.included;
     }

@@ -31,7 +31,12 @@ pub fn write_escaped(out: &mut Vec<u8>, text: &[u8]) -> Result<(), AllocError>
 }
 
 #[tactic(auto, using(crate::proofs::Labels::three_joined))]
-pub fn write_element(out: &mut Vec<u8>, opening: &[u8], closing: &[u8], text: &str) -> Result<(), AllocError>
+pub fn write_element(
+    out: &mut Vec<u8>,
+    opening: &[u8],
+    closing: &[u8],
+    text: &str,
+) -> Result<(), AllocError>
     ensures { IfOk result (λ _. out.new.items ≡ out.old.items ++ element opening.now closing.now (escaped text.now)) }
 {
     out.extend_from_slice(opening)?;

@@ -1,4 +1,4 @@
-use Rattle.std.proofs.Common.{◌≡◌, subst}
+use Rattle.std.proofs.Common.{subst}
 use Rattle.page_markup.specs.Names.{AreNames, names_from}
 use Rattle.page_markup.proofs.template_names.Goals as goal
 

@@ -1,4 +1,4 @@
-use Rattle.std.proofs.Common.{◌≡◌, ◌∙◌, ap, subst}
+use Rattle.std.proofs.Common.{◌∙◌, ap, subst}
 use Rattle.wiki_model.specs.Bytes.{replaced, line_feed, space}
 use Rattle.page_markup.specs.Names.{AreNames, names_from}
 use Rattle.page_markup.proofs.template_names_spaced.Goals as goal

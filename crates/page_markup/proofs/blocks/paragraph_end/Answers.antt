@@ -1,4 +1,4 @@
-use Rattle.std.proofs.Common.{◌≡◌, ◌∙◌, ◌+◌, ◌-◌, sym, arith, subst, take, drop}
+use Rattle.std.proofs.Common.{◌∙◌, ◌+◌, sym, arith, subst}
 use Rattle.page_markup.specs.Lines.{IsLine}
 use Rattle.page_markup.proofs.Trees.{line_joined, paragraph_to_heading, line_between}
 use Rattle.page_markup.proofs.blocks.paragraph_end.Goals as goal
@@ -11,12 +11,12 @@ loop-end-preserved c =
     let e = c.line_at-next.ensures.end in
     let plain = subst (IsLine (line_between text (end + 1) next)) c.in-Plain.is c.line_at-next.ensures.line in
     record {
-        order = omega (arith, c.loop-end.invariant.order, e);
-        within = c.line_at-next.ensures.within;
-        feed = c.line_at-next.ensures.feed;
-        cut = c.line_at-next.ensures.cut;
-        next = c.line_at-next.ensures.next;
-        lines = line_joined text c.args.from end next (omega (arith, c.loop-end.invariant.order, c.requires.order)) (omega (arith, e)) c.loop-end-test.true (c.loop-end.invariant.feed c.loop-end-test.true) e plain ∙ c.loop-end.invariant.lines;
+      order = omega (arith, c.loop-end.invariant.order, e);
+      within = c.line_at-next.ensures.within;
+      feed = c.line_at-next.ensures.feed;
+      cut = c.line_at-next.ensures.cut;
+      next = c.line_at-next.ensures.next;
+      lines = line_joined text c.args.from end next (omega (arith, c.loop-end.invariant.order, c.requires.order)) (omega (arith, e)) c.loop-end-test.true (c.loop-end.invariant.feed c.loop-end-test.true) e plain ∙ c.loop-end.invariant.lines;
     }
 
 pub returns-in-Heading-clause-lines : goal.returns-in-Heading-clause-lines

@@ -1,4 +1,4 @@
-use Rattle.std.proofs.Common.{◌≡◌, ◌∙◌, ◌+◌, ◌-◌, ◌++◌, ◌∷◌, [], ap, sym, arith, subst, take, drop}
+use Rattle.std.proofs.Common.{◌∙◌, ◌+◌, ◌++◌, ◌∷◌, [], ap, sym, subst, drop}
 use Rattle.page_markup.specs.Lines.{IsLine}
 use Rattle.page_markup.specs.Runs.{items_then, lines_from, list_block}
 use Rattle.page_markup.specs.Tree.{inline_of}

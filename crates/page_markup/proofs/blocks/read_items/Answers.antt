@@ -1,4 +1,4 @@
-use Rattle.std.proofs.Common.{◌≡◌, ◌∙◌, ◌+◌, ◌-◌, sym, arith, subst, take, drop}
+use Rattle.std.proofs.Common.{◌∙◌, ◌+◌, sym, subst}
 use Rattle.page_markup.specs.Lines.{IsLine}
 use Rattle.page_markup.proofs.Trees.{items_to_plain, line_between}
 use Rattle.page_markup.proofs.blocks.read_items.Goals as goal

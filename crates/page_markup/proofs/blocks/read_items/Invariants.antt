@@ -5,10 +5,10 @@ use Rattle.page_markup.proofs.blocks.read_items.Given as goal
 
 abbrev pub invariant-loop-end : goal.invariant-loop-end
 invariant-loop-end l = record {
-    order : l.fn.end ≤ l.end;
-    within : l.end ≤ length l.text;
-    next : l.end < length l.text → IsCharBoundary l.text (l.end + 1);
-    items : items_then l.items.items (lines_from (drop (l.end + 1) l.text)) ≡ items_then l.fn.items.items (lines_from (drop (l.fn.end + 1) l.text));
+  order : l.fn.end ≤ l.end;
+  within : l.end ≤ length l.text;
+  next : l.end < length l.text → IsCharBoundary l.text (l.end + 1);
+  items : items_then l.items.items (lines_from (drop (l.end + 1) l.text)) ≡ items_then l.fn.items.items (lines_from (drop (l.fn.end + 1) l.text));
 }
 
 abbrev pub decreases-loop-end : goal.decreases-loop-end

@@ -1,4 +1,4 @@
-use Rattle.std.proofs.Common.{◌≡◌, ◌∙◌, ap, ◌++◌}
+use Rattle.std.proofs.Common.{ap, ◌++◌}
 use Rattle.std.proofs.lemmas.Str.{IsCharBoundary-start}
 use Rattle.page_markup.specs.Tree.{tree_from}
 use Rattle.page_markup.proofs.blocks.read_tree.Goals as goal

@@ -1,4 +1,4 @@
-use Rattle.std.proofs.Common.{arith, ◌≡◌, ◌∙◌, sym, ap, take, []}
+use Rattle.std.proofs.Common.{arith, ◌∙◌, []}
 use Rattle.page_markup.proofs.Cuts.{cut_before}
 use Rattle.std.proofs.lemmas.Str.{IsCharBoundary-start}
 use Rattle.page_markup.proofs.Places.{target_at}

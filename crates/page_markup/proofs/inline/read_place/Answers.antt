@@ -1,5 +1,4 @@
-use Rattle.std.proofs.Common.{◌+◌, arith, ◌∙◌, ap, sym, ◌++◌, get_or, ℕ, ◌≡◌}
-use Rattle.std.specs.Prelude.{codes}
+use Rattle.std.proofs.Common.{◌∙◌, ap, sym, ◌++◌, get_or, ℕ, ◌≡◌}
 use Rattle.page_markup.proofs.Places.{known_next}
 use Rattle.page_markup.proofs.Firsts.{only_links, only_templates, no_marks}
 use Rattle.page_markup.proofs.inline.read_place.Goals as goal

@@ -1,4 +1,4 @@
-use Rattle.std.proofs.Common.{◌≡◌, ◌∙◌, sym, arith, [], ◌∷◌}
+use Rattle.std.proofs.Common.{arith, [], ◌∷◌}
 use Rattle.page_markup.proofs.Cuts.{cut_before, cut_after_one, first_of, found_at}
 use Rattle.page_markup.proofs.lines.line_at.Goals as goal
 

@@ -1,4 +1,4 @@
-use Rattle.std.proofs.Common.{◌≡◌, ◌∙◌, sym, arith, None}
+use Rattle.std.proofs.Common.{◌∙◌, sym, arith, None}
 use Rattle.std.proofs.lemmas.Str.Pattern.{strip_prefix_char}
 use Rattle.page_markup.proofs.LineKinds.{plain_line}
 use Rattle.page_markup.proofs.lines.line_of.Goals as goal

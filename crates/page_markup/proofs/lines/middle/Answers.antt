@@ -1,4 +1,3 @@
-use Rattle.std.proofs.Common.{◌≡◌, ◌∙◌}
 use Rattle.page_markup.proofs.LineKinds.{cut_front, cut_end}
 use Rattle.page_markup.proofs.lines.middle.Goals as goal
 

@@ -1,4 +1,4 @@
-use Rattle.std.proofs.Common.{◌≡◌, ◌≤◌, ◌+◌, ◌-◌, length, reverse, drop}
+use Rattle.std.proofs.Common.{◌≡◌, ◌≤◌, ◌+◌, ◌-◌, length, drop}
 use Rattle.wiki_model.specs.Bytes.{run_of}
 use Rattle.page_markup.proofs.lines.signs_at_front.Given as goal
 

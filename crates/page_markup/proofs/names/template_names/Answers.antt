@@ -1,4 +1,4 @@
-use Rattle.std.proofs.Common.{◌≡◌, ◌∙◌, ap, subst, IfOk}
+use Rattle.std.proofs.Common.{◌∙◌, ap, subst, IfOk}
 use Rattle.page_markup.specs.Names.{AreNames, titles_of}
 use Rattle.page_markup.proofs.Named.{titles_are}
 use Rattle.page_markup.proofs.names.template_names.Goals as goal

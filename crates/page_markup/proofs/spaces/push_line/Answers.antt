@@ -1,4 +1,4 @@
-use Rattle.std.proofs.Common.{◌≡◌, ◌∙◌, sym, ap, ◌++◌, ◌+◌, ◌-◌, take, drop, arith, [], ◌∷◌}
+use Rattle.std.proofs.Common.{◌∙◌, ap, ◌++◌, arith, [], ◌∷◌}
 use Rattle.page_markup.proofs.Cuts.{cut_before, cut_after_one, last_line, inner_line}
 use Rattle.std.specs.String.{string_bytes}
 use Rattle.page_markup.proofs.spaces.push_line.Goals as goal

@@ -1,4 +1,4 @@
-use Rattle.std.proofs.Common.{◌≡◌, ap, ◌++◌}
+use Rattle.std.proofs.Common.{ap, ◌++◌}
 use Rattle.wiki_model.specs.Bytes.{replaced, line_feed, space}
 use Rattle.std.proofs.lemmas.Str.{IsCharBoundary-start}
 use Rattle.page_markup.proofs.spaces.with_spaces.Goals as goal

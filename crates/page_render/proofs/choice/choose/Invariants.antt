@@ -1,4 +1,4 @@
-use Rattle.std.proofs.Common.{◌≤◌, ◌≡◌, ◌-◌, length, drop}
+use Rattle.std.proofs.Common.{◌≡◌, ◌-◌, length, drop}
 use Rattle.page_render.specs.Use.{as_used, pick_at}
 use Rattle.page_render.specs.Templates.{known}
 use Rattle.page_render.proofs.choice.choose.Given as goal

@@ -1,4 +1,3 @@
-use Rattle.std.proofs.Common.{◌≡◌}
 use Rattle.page_render.proofs.Index.{index_serves}
 use Rattle.page_render.proofs.choice.pages_of.Goals as goal
 

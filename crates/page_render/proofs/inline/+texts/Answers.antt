@@ -1,12 +1,11 @@
-use Rattle.std.proofs.Common.{◌≡◌, ◌≤◌, ◌<◌, ◌+◌, ◌++◌, ◌∙◌, sym, ap, length, drop, take, arith, Some, None, nat_lt, true, refl}
+use Rattle.std.proofs.Common.{◌≡◌, ◌<◌, ◌+◌, ◌++◌, ◌∙◌, sym, ap, length, drop, arith, refl}
 use Rattle.wiki_model.specs.Html.{inline, target_and_label, escaped}
-use Rattle.wiki_model.specs.Html as html
 use Rattle.wiki_model.specs.Titles.{url_of}
 use Rattle.wiki_model.specs.Bytes.{replaced, line_feed, space}
 use Rattle.std.specs.Prelude.{codes, if◌then◌else◌, ◌==◌}
 use Rattle.std.proofs.lemmas.List.{length-map}
 use Rattle.page_markup.specs.Marks.{marks_from}
-use Rattle.page_render.specs.Use.{between, GoesOn, AreMarks, opening_of, closing_of}
+use Rattle.page_render.specs.Use.{between, closing_of}
 use Rattle.page_render.proofs.Steps.{inside, deep, inside_part, whole_text, letter_goes, quotes_go, link_goes, include_goes}
 use Rattle.page_render.proofs.Cursors.{later_marks, at_marks}
 use Rattle.page_render.specs.Templates.{known}
@@ -14,9 +13,19 @@ use Rattle.page_render.proofs.inline.+texts.Goals as goal
 
 pub write_place-write_text-requires : goal.write_place-write_text-requires
 write_place-write_text-requires t c =
-    let b = c.in-Quotes.ensures.bounds in
-    (omega (arith, b.0, b.1, b.2, c.decreases), (b.0, (omega (arith, b.1), (c.requires.cursor,
-    (later_marks c.args.text.now c.args.marks.now c.args.cursor c.args.at (c.args.at + c.in-Quotes.width) (at_marks c.args.text.now c.args.marks.now c.args.cursor c.args.at c.requires.marks) (omega arith), c.requires.included)))))
+    let b = c.in-Quotes.ensures.bounds in (
+      omega (arith, b.0, b.1, b.2, c.decreases),
+      (
+        b.0,
+        (
+          omega (arith, b.1),
+          (
+            c.requires.cursor,
+            (later_marks c.args.text.now c.args.marks.now c.args.cursor c.args.at (c.args.at + c.in-Quotes.width) (at_marks c.args.text.now c.args.marks.now c.args.cursor c.args.at c.requires.marks) (omega arith), c.requires.included),
+          ),
+        ),
+      ),
+    )
 
 pub write_place-returns-in_ok-write_letter-in-Letter-clause-goes :
     goal.write_place-returns-in_ok-write_letter-in-Letter-clause-goes
@@ -34,8 +43,8 @@ write_place-returns-in_ok-extend_from_slice-in-Quotes-2-clause-goes t c =
     (c.in_ok-extend_from_slice-in-Quotes-2.ensures.items
     ∙ ap (λ x. c.write_text.new.out.items ++ x) c.closing.ensures
     ∙ ap (λ x. x ++ closing_of c.in-Quotes.rule)
-        (c.in_ok-after-in-Quotes.ensures.html
-        ∙ ap (λ x. x ++ content) (c.in_ok-extend_from_slice-in-Quotes.ensures.items ∙ ap (λ x. c.args.out.now.items ++ x) c.opening.ensures)))
+    (c.in_ok-after-in-Quotes.ensures.html
+    ∙ ap (λ x. x ++ content) (c.in_ok-extend_from_slice-in-Quotes.ensures.items ∙ ap (λ x. c.args.out.now.items ++ x) c.opening.ensures)))
 
 pub write_place-returns-in_ok-write_link-in-Link-clause-goes :
     goal.write_place-returns-in_ok-write_link-in-Link-clause-goes
@@ -99,11 +108,11 @@ pub write_text-loop-at-preserved : goal.write_text-loop-at-preserved
 write_text-loop-at-preserved t c =
     let b = c.in_ok-next.ensures.bounds in
     record {
-        past = omega (arith, b.0);
-        within = b.1;
-        cursor = c.skip_marks-cursor.ensures.end;
-        included = b.2;
-        marks = later_marks c.args.text.now c.args.marks.now c.skip_marks-cursor.result c.loop-at.at c.in_ok-next.next.at
-            (at_marks c.args.text.now c.args.marks.now c.skip_marks-cursor.result c.loop-at.at (c.skip_marks-cursor.ensures.rest ∙ c.loop-at.invariant.marks)) (omega (arith, b.0));
-        goes = (c.in_ok-next.ensures.goes.0 ∙ c.loop-at.invariant.goes.0, c.in_ok-next.ensures.goes.1 ∙ c.loop-at.invariant.goes.1);
+      past = omega (arith, b.0);
+      within = b.1;
+      cursor = c.skip_marks-cursor.ensures.end;
+      included = b.2;
+      marks = later_marks c.args.text.now c.args.marks.now c.skip_marks-cursor.result c.loop-at.at c.in_ok-next.next.at
+          (at_marks c.args.text.now c.args.marks.now c.skip_marks-cursor.result c.loop-at.at (c.skip_marks-cursor.ensures.rest ∙ c.loop-at.invariant.marks)) (omega (arith, b.0));
+      goes = (c.in_ok-next.ensures.goes.0 ∙ c.loop-at.invariant.goes.0, c.in_ok-next.ensures.goes.1 ∙ c.loop-at.invariant.goes.1);
     }

@@ -1,4 +1,4 @@
-use Rattle.std.proofs.Common.{◌≡◌, ◌∙◌, ap, ◌++◌}
+use Rattle.std.proofs.Common.{◌∙◌, ap, ◌++◌}
 use Rattle.std.specs.Prelude.{codes}
 use Rattle.wiki_model.specs.Titles.{url_of}
 use Rattle.page_render.proofs.Labels.{three_joined}
@@ -9,4 +9,4 @@ returns c =
     three_joined c.args.out.now.items c.extend_from_slice-3.new.self.items (codes "<a href=\"/wiki/") (url_of c.args.title.now) (codes "\">")
     (c.in_ok-extend_from_slice-3.ensures.items
     ∙ ap (λ x. x ++ codes "\">") (c.in_ok-extend_from_slice-2.ensures.items ∙ ap (λ x. x ++ c.as_bytes.result.now) c.in_ok-extend_from_slice.ensures.items
-        ∙ ap (λ u. (c.args.out.now.items ++ codes "<a href=\"/wiki/") ++ u) (c.as_bytes.ensures.value ∙ c.in_ok-url.ensures)))
+    ∙ ap (λ u. (c.args.out.now.items ++ codes "<a href=\"/wiki/") ++ u) (c.as_bytes.ensures.value ∙ c.in_ok-url.ensures)))

@@ -1,4 +1,4 @@
-use Rattle.std.proofs.Common.{◌≡◌, ◌∙◌, ap, ◌++◌}
+use Rattle.std.proofs.Common.{◌∙◌, ap, ◌++◌}
 use Rattle.std.specs.Prelude.{option_copied}
 use Rattle.wiki_model.specs.Html.{page_html}
 use Rattle.page_render.specs.Templates.{known}

@@ -8,7 +8,7 @@ abbrev pub invariant-loop-block : goal.invariant-loop-block
 invariant-loop-block l =
     let reader = inline (known l.pages) l.depth in
     record {
-        bound : l.included ≤ 262144;
-        read : AllRead (drop l.block-index l.blocks);
-        html : l.out.items ++ (read_blocks reader (drop l.block-index l.blocks) l.included).html ≡ l.fn.out.items ++ (read_blocks reader l.blocks l.fn.included).html;
+      bound : l.included ≤ 262144;
+      read : AllRead (drop l.block-index l.blocks);
+      html : l.out.items ++ (read_blocks reader (drop l.block-index l.blocks) l.included).html ≡ l.fn.out.items ++ (read_blocks reader l.blocks l.fn.included).html;
     }

@@ -1,4 +1,4 @@
-use Rattle.std.proofs.Common.{◌≡◌, ◌∙◌, ap, sym, ◌++◌}
+use Rattle.std.proofs.Common.{◌∙◌, ap, ◌++◌}
 use Rattle.std.specs.Prelude.{map, codes, option_copied}
 use Rattle.wiki_model.specs.Bytes.{pieces, line_feed}
 use Rattle.wiki_model.specs.Html.{inline, blocks, blocks_of, line_of, element, escaped, line_end, notice, depth_of}

@@ -10,8 +10,8 @@ invariant-loop-part l =
     let whole = each_between reader l.opening l.closing (texts_of l.parts) l.fn.included in
     let left = each_between reader l.opening l.closing (texts_of (drop l.part-index l.parts)) l.included in
     record {
-        bound : l.included ≤ 262144;
-        read : AreRead (drop l.part-index l.parts);
-        html : l.out.items ++ left.html ≡ l.fn.out.items ++ whole.html;
-        included : left.included ≡ whole.included;
+      bound : l.included ≤ 262144;
+      read : AreRead (drop l.part-index l.parts);
+      html : l.out.items ++ left.html ≡ l.fn.out.items ++ whole.html;
+      included : left.included ≡ whole.included;
     }

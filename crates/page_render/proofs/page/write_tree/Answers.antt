@@ -1,4 +1,4 @@
-use Rattle.std.proofs.Common.{◌≡◌, ◌∙◌, ap, sym, subst, ◌++◌, IfOk}
+use Rattle.std.proofs.Common.{◌∙◌, ap, sym, subst, ◌++◌}
 use Rattle.std.specs.Prelude.{map}
 use Rattle.wiki_model.specs.Bytes.{pieces, line_feed}
 use Rattle.wiki_model.specs.Html.{inline, blocks_of, line_of}
