@@ -1,3 +1,2 @@
 pub mod Found
-pub mod Pieces
-pub mod Plain
+pub mod Bound

@@ -2,4 +2,4 @@ pub mod Shown
 pub mod Kept
 pub mod Decided
 pub mod Steps
-pub mod PlainPages
+pub mod Pages

@@ -1,6 +1,6 @@
 // The farm.
 use crate::edits::{edit_answer, page_text, save};
-use crate::render::render;
+use crate::pages::page_at;
 use crate::{Answer, EditAsk, PageAnswer};
 use commit_feed::Feed;
 use farm_base::Memory;
@@ -26,19 +26,19 @@ impl Model for Farm {
     ghost invariant = { λ f. IsKept f.feed f.applied };
 }
 
-ghost use Rattle.std.specs.Prelude.{◌≡◌};
-ghost use Rattle.wiki_model.specs.History.{page_text};
+ghost use Rattle.std.specs.Prelude.{◌≡◌, ◌≤◌, length};
 ghost use Rattle.farm_core.specs.Shown.{answer_of};
 ghost use Rattle.farm_core.specs.Steps.{Views};
 
 // The page of a title as the first `source` entries have it.
 fn view_at(alloc: Global, feed: &Feed, source: u64, title: Title) -> Answer
+    requires { source ≤ length feed.now }
     ensures { Views (record { history = feed.now; applied = source }) title (answer_of result) }
 {
     let Some(text) = page_text(feed, &title, source) else {
         return Answer::NoPage { source };
     };
-    match render(alloc, &title, text) {
+    match page_at(alloc, feed, source, &title, text) {
         Ok(page) => Answer::Ok(PageAnswer {
             title,
             source,
@@ -91,7 +91,8 @@ impl Farm {
         self.applied = (self.applied + u64::from(count)).min(entries);
     }
 
-    /// Shows the page of the applied prefix.
+    /// Shows the page of the applied prefix, with the templates and the notice of the same prefix. Its cost is linear
+    /// in the prefix, as it looks through all of it.
     pub fn view(&self, alloc: Global, title: Title) -> Answer
         ensures { Views self.now title (answer_of result) }
     {

@@ -6,9 +6,8 @@
 pub mod answer;
 mod edits;
 pub mod farm;
-pub mod page;
-pub mod render;
+mod pages;
 
 pub use answer::{Answer, EditAsk, PageAnswer, SavedNote};
 pub use farm::Farm;
-pub use page::Page;
+pub use page_render::Page;
