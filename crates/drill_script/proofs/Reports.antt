@@ -45,4 +45,4 @@ pub lines_join : (before number text page : Bytes) → (before ++ (number ++ (co
 lines_join before number text page =
     append_assoc before (number ++ (codes " " ++ (text ++ codes "\n"))) page
     ∙ ap (λ xs. before ++ xs) (append_assoc number (codes " " ++ (text ++ codes "\n")) page ∙ ap (λ xs. number ++ (codes " " ++ xs)) (append_assoc text (codes "\n") page)
-        ∙ right_left number (codes " " ∷ text ∷ (10 ∷ page) ∷ []))
+    ∙ right_left number (codes " " ∷ text ∷ (10 ∷ page) ∷ []))

@@ -79,7 +79,12 @@ fn numbered(alloc: Global, line: u64, text: &str) -> Result<String, AllocError>
 }
 
 #[tactic(auto, using(crate::proofs::Reports::lines_join))]
-fn add_answer(alloc: Global, text: &mut Vec<u8>, line: u64, answer: &Answer) -> Result<(), AllocError>
+fn add_answer(
+    alloc: Global,
+    text: &mut Vec<u8>,
+    line: u64,
+    answer: &Answer,
+) -> Result<(), AllocError>
     ensures { OnOk result (text.new.items ≡ text.old.items ++ report_line line true (answer_of answer.now)) }
 {
     let said = answer_text(alloc, answer)?;

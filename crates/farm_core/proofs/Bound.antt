@@ -32,7 +32,6 @@ text_append [] more title = refl
 text_append (p ∷ pages) more title =
     ap (cond (bytes_eq p.0 title) (Some p.1)) (text_append pages more title) ∙ cond_or (bytes_eq p.0 title) p.1 (template_text pages title) (template_text more title)
 
-
 -- what one entry more does to a page
 page_pushed : (h : List Entry) (e : Entry) (title : Title) →
     option_map (λ (n : Numbered). n.commit.edit.text) (last_of (commits_on (h ++ e ∷ []) title)) ≡ or_else (template_text (bound_by (Some e)) title) (option_map (λ (n : Numbered). n.commit.edit.text) (last_of (commits_on h title)))

@@ -34,16 +34,9 @@ pub struct PageAnswer {
 pub enum Answer {
     Ok(PageAnswer),
     Saved(SavedNote),
-    NoPage {
-        source: u64,
-    },
-    Conflict {
-        base: u64,
-        current: u64,
-    },
+    NoPage { source: u64 },
+    Conflict { base: u64, current: u64 },
     /// The client's token already names another edit.
-    Token {
-        entry: u64,
-    },
+    Token { entry: u64 },
     Memory,
 }

@@ -6,7 +6,10 @@ use std::test::Fail;
 fn the_default_hold_off_is_eleven_seconds(rt: HostRuntime) {
     assert_eq!(rt; Bounds::default().hold_off(), 11_000);
     assert!(rt; Bounds::DEFAULT.are_allowed());
-    let still = Bounds { skew: 0, ..Bounds::DEFAULT };
+    let still = Bounds {
+        skew: 0,
+        ..Bounds::DEFAULT
+    };
     assert!(rt; !still.are_allowed());
 }
 
@@ -24,7 +27,12 @@ fn lists_give_back_what_they_were_made_from(rt: HostRuntime) -> Result<(), Fail>
 #[test]
 fn a_stream_is_read_to_its_end_or_past_the_limit(rt: HostRuntime) -> Result<(), Fail> {
     let alloc = rt.alloc();
-    for (limit, wanted) in [(9_999usize, 10_000usize), (10_000, 10_000), (70_000, 10_000), (5, 6)] {
+    for (limit, wanted) in [
+        (9_999usize, 10_000usize),
+        (10_000, 10_000),
+        (70_000, 10_000),
+        (5, 6),
+    ] {
         let mut bytes = Vec::new(alloc);
         for n in 0..10_000u32 {
             bytes.push((n % 251) as u8)?;
@@ -38,7 +46,12 @@ fn a_stream_is_read_to_its_end_or_past_the_limit(rt: HostRuntime) -> Result<(), 
         assert_eq!(rt; read[5], 5);
     }
     let mut failing = MemSource::new([1u8; 5_000].to_vec(alloc)?, [2u64].to_vec(alloc)?);
-    assert!(rt; matches!(read_all(alloc, 9_999, &mut failing), Err(InputFault::Failed)));
+    assert!(rt;
+        matches!(
+            read_all(alloc, 9_999, &mut failing),
+            Err(InputFault::Failed)
+        )
+    );
     let mut sink = MemSink::new(alloc, [2u64].to_vec(alloc)?);
     assert!(rt; write_all(&mut sink, b"one").is_ok());
     assert!(rt; write_all(&mut sink, b"two").is_err());

@@ -96,8 +96,22 @@ fn a_feed_is_its_list(rt: HostRuntime) -> Result<(), FeedFail> {
     assert_eq!(rt; feed.by_token(&client, &token), Some(2));
     assert_eq!(rt; feed.by_token(&ClientId::number(2), &token), None);
     let writes = feed.writes_of(&client);
-    assert_eq!(rt; writes, Writes { count: 1, last: 2, stamp: Moment(2_000) });
+    assert_eq!(rt;
+        writes,
+        Writes {
+            count: 1,
+            last: 2,
+            stamp: Moment(2_000)
+        }
+    );
     let none = feed.writes_of(&ClientId::number(2));
-    assert_eq!(rt; none, Writes { count: 0, last: 0, stamp: Moment(0) });
+    assert_eq!(rt;
+        none,
+        Writes {
+            count: 0,
+            last: 0,
+            stamp: Moment(0)
+        }
+    );
     Ok(())
 }

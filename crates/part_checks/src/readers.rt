@@ -48,14 +48,34 @@ fn a_text_names_its_title(rt: HostRuntime) -> Result<(), ReadingFail> {
     let cases: [(&str, &str, Class, &str); 10] = [
         ("  foo__bar_", "Foo bar", Class::Plain, "Foo_bar"),
         ("template:_x", "Template:X", Class::Template, "Template:X"),
-        ("MediaWiki:notice", "MediaWiki:Notice", Class::Message, "MediaWiki:Notice"),
+        (
+            "MediaWiki:notice",
+            "MediaWiki:Notice",
+            Class::Message,
+            "MediaWiki:Notice",
+        ),
         ("Café menu", "Café menu", Class::Plain, "Caf%C3%A9_menu"),
         ("élan", "élan", Class::Plain, "%C3%A9lan"),
         ("Template :x", "Template :x", Class::Plain, "Template_:x"),
         ("TEMPLATE:x", "TEMPLATE:x", Class::Plain, "TEMPLATE:x"),
-        ("a-b.c_d~e/f:g", "A-b.c d~e/f:g", Class::Plain, "A-b.c_d~e/f:g"),
-        ("50% \"off\" & more", "50% \"off\" & more", Class::Plain, "50%25_%22off%22_%26_more"),
-        ("Template:template:x", "Template:Template:x", Class::Template, "Template:Template:x"),
+        (
+            "a-b.c_d~e/f:g",
+            "A-b.c d~e/f:g",
+            Class::Plain,
+            "A-b.c_d~e/f:g",
+        ),
+        (
+            "50% \"off\" & more",
+            "50% \"off\" & more",
+            Class::Plain,
+            "50%25_%22off%22_%26_more",
+        ),
+        (
+            "Template:template:x",
+            "Template:Template:x",
+            Class::Template,
+            "Template:Template:x",
+        ),
     ];
     for (typed, text, class, url) in cases {
         let title = Title::parse(rt.alloc(), typed)?;
@@ -98,10 +118,20 @@ fn a_title_has_at_most_255_bytes(rt: HostRuntime) -> Result<(), ReadingFail> {
     let most = repeated(rt.alloc(), 'a', 255)?;
     assert_eq!(rt; Title::parse(rt.alloc(), most.as_str())?.text().len(), 255);
     let over = repeated(rt.alloc(), 'a', 256)?;
-    assert!(rt; matches!(Title::parse(rt.alloc(), over.as_str()), Err(TitleFault::TooLong)));
+    assert!(rt;
+        matches!(
+            Title::parse(rt.alloc(), over.as_str()),
+            Err(TitleFault::TooLong)
+        )
+    );
     let mut bad = repeated(rt.alloc(), 'a', 256)?;
     bad.push('#')?;
-    assert!(rt; matches!(Title::parse(rt.alloc(), bad.as_str()), Err(TitleFault::TooLong)));
+    assert!(rt;
+        matches!(
+            Title::parse(rt.alloc(), bad.as_str()),
+            Err(TitleFault::TooLong)
+        )
+    );
     let mut spaced = repeated(rt.alloc(), '_', 300)?;
     spaced.push('a')?;
     assert_eq!(rt; Title::parse(rt.alloc(), spaced.as_str())?.text(), "A");
@@ -146,7 +176,10 @@ fn a_token_is_1_to_64_signs(rt: HostRuntime) -> Result<(), ReadingFail> {
     assert_eq!(rt; Token::parse(rt.alloc(), most.as_str())?.text().len(), 64);
     let over = repeated(rt.alloc(), 'x', 65)?;
     for typed in ["", "a b", "a.b", "é", "a\n", over.as_str()] {
-        assert!(rt; matches!(Token::parse(rt.alloc(), typed), Err(TokenFault::Form)), "{typed}");
+        assert!(rt;
+            matches!(Token::parse(rt.alloc(), typed), Err(TokenFault::Form)),
+            "{typed}"
+        );
     }
     Ok(())
 }
@@ -176,18 +209,32 @@ fn a_client_is_32_digits(rt: HostRuntime) {
     for (n, wanted) in numbers {
         assert_eq!(rt; ClientId::number(n).digits().as_slice(), wanted);
     }
-    assert!(rt; ClientId::number(1) < ClientId::number(2) && ClientId::number(3) == ClientId::number(3));
+    assert!(rt;
+        ClientId::number(1) < ClientId::number(2) && ClientId::number(3) == ClientId::number(3)
+    );
 }
 
 #[test]
 fn a_request_has_its_client(rt: HostRuntime) {
     let cases: [(&str, &str, &[u8]); 6] = [
-        ("127.0.0.1", "curl/8.5.0", b"5d860d8b56092af17d1ad1299e46b5e9"),
+        (
+            "127.0.0.1",
+            "curl/8.5.0",
+            b"5d860d8b56092af17d1ad1299e46b5e9",
+        ),
         ("", "", b"68b329da9893e34099c7d8ad5cb9c940"),
-        ("10.0.0.7", "Mozilla/5.0 (X11; Linux x86_64)", b"cb79604942a343b5176a4570c17cc753"),
+        (
+            "10.0.0.7",
+            "Mozilla/5.0 (X11; Linux x86_64)",
+            b"cb79604942a343b5176a4570c17cc753",
+        ),
         ("::1", "", b"eecc54e1d81ae20a07a997e26917a042"),
         ("a", "b", b"8cdeb44417f3c26826595d5820cf5700"),
-        ("192.168.1.20:5000", "é", b"2924d8227b34c49ccdd5f8f7eff350d2"),
+        (
+            "192.168.1.20:5000",
+            "é",
+            b"2924d8227b34c49ccdd5f8f7eff350d2",
+        ),
     ];
     for (peer, agent, wanted) in cases {
         assert_eq!(rt; ClientId::of(peer, agent).digits().as_slice(), wanted);
@@ -217,7 +264,10 @@ fn lines_end_with_line_feeds(rt: HostRuntime) -> Result<(), ReadingFail> {
 #[test]
 fn a_text_has_at_most_65536_bytes(rt: HostRuntime) -> Result<(), ReadingFail> {
     let most = repeated(rt.alloc(), 'a', 65_536)?;
-    assert_eq!(rt; Text::parse(rt.alloc(), most.as_str())?.text().len(), 65_536);
+    assert_eq!(rt;
+        Text::parse(rt.alloc(), most.as_str())?.text().len(),
+        65_536
+    );
     let over = repeated(rt.alloc(), 'a', 65_537)?;
     let wanted = TextFault::TooLong { bytes: 65_537 };
     match Text::parse(rt.alloc(), over.as_str()) {
@@ -226,7 +276,10 @@ fn a_text_has_at_most_65536_bytes(rt: HostRuntime) -> Result<(), ReadingFail> {
     }
     let mut returns = repeated(rt.alloc(), 'a', 65_534)?;
     returns.push_str("\r\n\r\n")?;
-    assert_eq!(rt; Text::parse(rt.alloc(), returns.as_str())?.text().len(), 65_536);
+    assert_eq!(rt;
+        Text::parse(rt.alloc(), returns.as_str())?.text().len(),
+        65_536
+    );
     returns.push_str("\r\n")?;
     match Text::parse(rt.alloc(), returns.as_str()) {
         Ok(_) => assert!(rt; false),

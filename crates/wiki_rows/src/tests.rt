@@ -34,7 +34,7 @@ fn outcome(
 
 #[test]
 fn a_script_has_its_report(rt: HostRuntime) -> Result<(), Fail> {
-    let cases: [(&str, &str); 5] = [
+    let cases: [(&str, &str); 6] = [
         ("end\n", "end answers=0 entries=0\n"),
         (
             "edit 1 t1 A 0 one\nview home 2 - 0 A\napply home 0 1\nview home 2 - 0 A\nend\n",
@@ -47,6 +47,10 @@ fn a_script_has_its_report(rt: HostRuntime) -> Result<(), Fail> {
         (
             "edit 1 t1 A 0 one\nedit 2 t1 A 1 two\nedit 1 t2 B 0 six\napply home 0 1\nview home 3 - 7 A\napply home 0 1000000\nview home 3 - 7 A\nview home 3 - 7 B\nend\n",
             "1 saved entry=1 revision=1 cookie=1@0\n2 saved entry=2 revision=2 cookie=1@0\n3 saved entry=3 revision=1 cookie=2@0\n5 ok source=1 from=replica:0 lagged=0 bytes=55\n<!DOCTYPE html>\n<title>A</title>\n<h1>A</h1>\n<p>one</p>\n7 ok source=3 from=replica:0 lagged=0 bytes=55\n<!DOCTYPE html>\n<title>A</title>\n<h1>A</h1>\n<p>two</p>\n8 ok source=3 from=replica:0 lagged=0 bytes=55\n<!DOCTYPE html>\n<title>B</title>\n<h1>B</h1>\n<p>six</p>\nend answers=6 entries=3\n",
+        ),
+        (
+            "edit 1 t1 A 0 one\nedit 1 t2 MediaWiki:Sitenotice 0 news\napply home 0 1\nview home 2 - 0 A\napply home 0 1\nview home 2 - 0 A\nend\n",
+            "1 saved entry=1 revision=1 cookie=1@0\n2 saved entry=2 revision=1 cookie=2@0\n4 ok source=1 from=replica:0 lagged=0 bytes=55\n<!DOCTYPE html>\n<title>A</title>\n<h1>A</h1>\n<p>one</p>\n6 ok source=2 from=replica:0 lagged=0 bytes=71\n<!DOCTYPE html>\n<title>A</title>\n<div>news</div>\n<h1>A</h1>\n<p>one</p>\nend answers=4 entries=2\n",
         ),
         (
             "edit 9223372036854775807 t-_1 _caf\u{e9}__\"a\"&b 0 \napply home 0 2\nview home 2 - 9223372036854775807 Caf\u{e9}_\"a\"&b\nend\n",
@@ -101,7 +105,13 @@ fn refused_input_names_its_line(rt: HostRuntime) -> Result<(), Fail> {
 
 #[test]
 fn other_words_are_no_command(rt: HostRuntime) -> Result<(), Fail> {
-    let cases: [&[&str]; 5] = [&[], &["drill", "now"], &["Drill"], &["stir", "7", "0"], &["--help"]];
+    let cases: [&[&str]; 5] = [
+        &[],
+        &["drill", "now"],
+        &["Drill"],
+        &["stir", "7", "0"],
+        &["--help"],
+    ];
     for words in cases {
         let (status, text) = outcome(rt.alloc(), words, b"end\n", &[], &[])?;
         assert_eq!(rt; status, Status::Usage);
@@ -113,11 +123,39 @@ fn other_words_are_no_command(rt: HostRuntime) -> Result<(), Fail> {
 #[test]
 fn a_failed_read_or_write_is_told(rt: HostRuntime) -> Result<(), Fail> {
     let cases: [(&[&str], &[u8], &[u64], &[u64], Status, &str); 7] = [
-        (&["drill"], b"end\n", &[1], &[], Status::ReadFault, "read-fault\n"),
-        (&["drill"], b"end\n", &[2], &[], Status::ReadFault, "read-fault\n"),
-        (&["drill"], b"end\n", &[3], &[], Status::Ok, "end answers=0 entries=0\n"),
+        (
+            &["drill"],
+            b"end\n",
+            &[1],
+            &[],
+            Status::ReadFault,
+            "read-fault\n",
+        ),
+        (
+            &["drill"],
+            b"end\n",
+            &[2],
+            &[],
+            Status::ReadFault,
+            "read-fault\n",
+        ),
+        (
+            &["drill"],
+            b"end\n",
+            &[3],
+            &[],
+            Status::Ok,
+            "end answers=0 entries=0\n",
+        ),
         (&["drill"], b"end\n", &[], &[1], Status::WriteFault, ""),
-        (&["drill"], b"beat\n", &[], &[1], Status::Script { line: 1 }, ""),
+        (
+            &["drill"],
+            b"beat\n",
+            &[],
+            &[1],
+            Status::Script { line: 1 },
+            "",
+        ),
         (&["drill"], b"end\n", &[1], &[1], Status::ReadFault, ""),
         (&["help"], b"end\n", &[1], &[1], Status::Usage, ""),
     ];
@@ -137,7 +175,10 @@ fn a_run_over_what_never_fails_is_done(rt: HostRuntime) -> Result<(), Fail> {
         sink: SureSink::new(rt.alloc()),
     };
     assert_eq!(rt; run(rt.alloc(), &words, &mut outside), Status::Ok);
-    assert_eq!(rt; outside.sink.bytes(), b"end answers=0 entries=0\n".as_slice());
+    assert_eq!(rt;
+        outside.sink.bytes(),
+        b"end answers=0 entries=0\n".as_slice()
+    );
     Ok(())
 }
 
