@@ -1,0 +1,4 @@
+mod Rising
+mod Follows
+mod Rows
+mod Small

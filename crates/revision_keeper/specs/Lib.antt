@@ -1,0 +1,4 @@
+pub mod Causes
+pub mod Bounds
+pub mod Held
+pub mod Indexes
