@@ -23,6 +23,7 @@ pub enum KeepFault {
 impl From<AllocError> for KeepFault {
     ghost use Rattle.std.specs.Prelude.{◌≡◌};
     ghost use Rattle.revision_keeper.specs.declared.keeper.KeepFault.TheVariants.{Memory};
+
     ghost from_gives = { λ _ fault. fault ≡ Memory };
 
     fn from(_error: AllocError) -> KeepFault {

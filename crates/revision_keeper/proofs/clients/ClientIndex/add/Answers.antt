@@ -33,8 +33,8 @@ returns-in-Some-clause-ok c =
     (λ writes tokens. record {
       writes = λ k. row_grown writes_seen (λ w. one_more w number stamp) rows grown client k row (updates.0 k) (writes ∙ sym (ap (λ o. one_more (writes_seen o) number stamp) found));
       tokens = λ k t. row_grown (number_seen t) (λ o. cond (bytes_eq token t) (Some number) o) rows grown client k row (updates.0 k)
-      (tokens t ∙ sym (ap (λ o. cond (bytes_eq token t) (Some number) (number_seen t o)) found))
-      ∙ cond_both (bytes_eq client k) (bytes_eq token t) (Some number) (number_in c.args.self.now k t);
+          (tokens t ∙ sym (ap (λ o. cond (bytes_eq token t) (Some number) (number_seen t o)) found))
+          ∙ cond_both (bytes_eq client k) (bytes_eq token t) (Some number) (number_in c.args.self.now k t);
     })
     c.add.ensures.writes c.add.ensures.tokens
 
