@@ -1,12 +1,12 @@
 -- The indexes follow the list: what one more entry changes in each.
-use Rattle.std.proofs.Common.{◌≡◌, ℕ, zero, suc, ◌+◌, ◌-◌, ◌<◌, ◌≤◌, Bool, true, false, ◌&&◌, cond, List, [], ◌∷◌, ◌++◌, length, map, filter, take, Some, None, Option, unwrap_or, option_map, refl, sym, ap, ◌∙◌, subst, arith, append-nil, length-append}
-use Rattle.std.specs.Prelude.{bytes_eq, find, slice_get}
+use Rattle.std.proofs.Common.{◌≡◌, ℕ, suc, ◌+◌, ◌≤◌, Bool, true, false, ◌&&◌, cond, List, [], ◌∷◌, ◌++◌, length, map, filter, take, Some, None, Option, refl, sym, ap, ◌∙◌, subst, arith, append-nil, length-append}
+use Rattle.std.specs.Prelude.{bytes_eq, find}
 use Rattle.std.proofs.lemmas.List.Elements.{filter-append}
 use Rattle.std.proofs.lemmas.Option.{slice_get_within}
 use Rattle.std.proofs.lemmas.Slice.Eq.{bytes_eq-Decides}
 use Rattle.wiki_model.specs.Bytes.{last_of}
 use Rattle.wiki_model.specs.Titles.{Title, Client, Token}
-use Rattle.wiki_model.specs.History.{Entry, Beat, Committed, Commit, Numbered, commits, commits_from, commits_on, commits_by, commit_in, commit_with_token, number_of, number_or_zero, own, count, stamp_at, stamp_of, IsHistory}
+use Rattle.wiki_model.specs.History.{Entry, Beat, Committed, Commit, Numbered, commits, commits_on, commits_by, commit_in, commit_with_token, number_of, number_or_zero, own, count, stamp_at, IsHistory}
 use Rattle.wiki_model.proofs.HistoryLaws.{last_of-push, commits_from-push_beat, commits_from-push_commit, push-at, take-push}
 use Rattle.wiki_model.proofs.HistoryGrowth.{take-all, stamp-before, stamp-after}
 use Rattle.wiki_model.proofs.SessionLaws.{last-get, filter-get, numbered-at}
@@ -17,7 +17,7 @@ use Rattle.commit_feed.proofs.Found.{few_by}
 use Rattle.revision_keeper.specs.declared.titles.TitleIndex.{TitleIndex}
 use Rattle.revision_keeper.specs.declared.clients.ClientIndex.{ClientIndex}
 use Rattle.revision_keeper.specs.Bounds.{writes_of}
-use Rattle.revision_keeper.specs.Indexes.{numbers_of, numbers_on, writes_in, number_in, one_more, AreSameNumbers, AreSameWrites, AddsNumber, AddsWrite, AreIndexed}
+use Rattle.revision_keeper.specs.Indexes.{numbers_of, writes_in, one_more, AreSameNumbers, AreSameWrites, AddsNumber, AddsWrite, AreIndexed}
 
 -- the new commit with its number
 abbrev new_in : List Entry → Commit → Numbered

@@ -1,10 +1,10 @@
 -- Lists of numbers that rise, and the last of them that is at most a bound.
-use Rattle.std.proofs.Common.{◌≡◌, ℕ, zero, suc, ◌+◌, ◌-◌, ◌<◌, ◌≤◌, ◌⊎◌, inl, inr, Bool, true, false, cond, List, [], ◌∷◌, length, map, filter, take, Some, None, Option, refl, sym, ap, ◌∙◌, arith, nat_lt, nat_le, get_or}
+use Rattle.std.proofs.Common.{◌≡◌, ℕ, zero, suc, ◌+◌, ◌-◌, ◌<◌, ◌≤◌, ◌⊎◌, inl, inr, Bool, true, false, cond, List, [], ◌∷◌, length, filter, take, Some, None, refl, sym, ap, ◌∙◌, arith, nat_lt, nat_le, get_or}
 use Rattle.std.specs.Prelude.{bytes_eq}
 use Rattle.std.proofs.lemmas.Bool.Decides.{nat_tests}
 use Rattle.wiki_model.specs.Bytes.{last_of}
 use Rattle.wiki_model.specs.Titles.{Title}
-use Rattle.wiki_model.specs.History.{Entry, Beat, Committed, Commit, Numbered, commits_from, commits, commits_on, page, number_of}
+use Rattle.wiki_model.specs.History.{Entry, Beat, Committed, Numbered, commits_from, commits_on, page, number_of}
 use Rattle.revision_keeper.specs.Indexes.{RiseFrom, last_up_to, numbers_of}
 
 -- they rise from any smaller number too

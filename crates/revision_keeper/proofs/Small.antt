@@ -1,11 +1,10 @@
 -- What a history has is within bounds where its length is.
-use Rattle.std.proofs.Common.{◌≡◌, ℕ, zero, suc, ◌+◌, ◌<◌, ◌≤◌, ◌^◌, Bool, List, [], ◌∷◌, length, filter, take, Some, None, Option, option_map, unwrap_or, refl, sym, ap, ◌∙◌, arith}
+use Rattle.std.proofs.Common.{◌≡◌, ℕ, zero, suc, ◌+◌, ◌<◌, ◌≤◌, ◌^◌, Bool, List, [], ◌∷◌, length, filter, take, Some, None, Option, option_map, unwrap_or, refl, ap, arith}
 use Rattle.std.specs.Prelude.{bytes_eq, slice_get, IfSome}
 use Rattle.std.proofs.lemmas.List.Sums.{length-filter, count_by-le-length}
 use Rattle.std.proofs.lemmas.Option.{slice_get_within}
 use Rattle.wiki_model.specs.Titles.{Title, Client, Token}
-use Rattle.wiki_model.specs.History.{Entry, Beat, Committed, Commit, Numbered, commits_from, commits, commits_on, commits_by, commit_in, entry_at, page, number_of, commit_with_token, own, count, stamp_at, stamp_of, IsHistory}
-use Rattle.wiki_model.proofs.HoldOffLaws.{commit-within}
+use Rattle.wiki_model.specs.History.{Entry, Beat, Committed, Numbered, commits_from, commits, commit_in, entry_at, page, number_of, commit_with_token, own, stamp_at, stamp_of, IsHistory}
 use Rattle.commit_feed.proofs.Found.{with_token_at, page_at, few_by}
 use Rattle.revision_keeper.specs.Bounds.{IsSmall, AreSmall, writes_of}
 use Rattle.revision_keeper.proofs.Follows.{own_within}

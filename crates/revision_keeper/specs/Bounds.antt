@@ -1,5 +1,5 @@
 -- The bounds of what a keeper answers, whether or not it tells its content.
-use Rattle.std.specs.Prelude.{ℕ, ◌<◌, ◌≤◌, ◌^◌, List}
+use Rattle.std.specs.Prelude.{◌<◌, ◌≤◌, ◌^◌, List}
 use Rattle.wiki_model.specs.Limits.{greatest_moment}
 use Rattle.wiki_model.specs.Titles.{Client}
 use Rattle.wiki_model.specs.History.{Entry, Beat, Committed, count, own, stamp_at}

@@ -1,13 +1,12 @@
 -- The ordered indexes over a list of entries: what they hold, and when they agree with the list.
-use Rattle.std.specs.Prelude.{◌≡◌, ℕ, ◌+◌, ◌≤◌, Bool, ◌&&◌, if◌then◌else◌, List, [], ◌∷◌, ◌++◌, map, filter, Option, None, Some, unwrap_or, option_map, option_and_then, nat_le, bytes_eq, ⊤}
-use Rattle.std.specs.BTreeMap.{BTreeMap, get}
+use Rattle.std.specs.Prelude.{◌≡◌, ℕ, ◌+◌, ◌≤◌, ◌&&◌, if◌then◌else◌, List, [], ◌∷◌, ◌++◌, map, filter, Option, Some, unwrap_or, option_map, option_and_then, nat_le, bytes_eq, ⊤}
+use Rattle.std.specs.BTreeMap.{get}
 use Rattle.wiki_model.specs.Bytes.{last_of}
 use Rattle.wiki_model.specs.Titles.{Title, Client, Token}
 use Rattle.wiki_model.specs.History.{Entry, Numbered, IsHistory, commits_on, commit_with_token, number_of}
 use Rattle.wiki_titles.specs.Order.{bytes_cmp}
 use Rattle.commit_feed.specs.declared.entry.Writes.{Writes}
 use Rattle.revision_keeper.specs.declared.titles.TitleIndex.{TitleIndex}
-use Rattle.revision_keeper.specs.declared.clients.ClientRow.{ClientRow}
 use Rattle.revision_keeper.specs.declared.clients.ClientIndex.{ClientIndex}
 use Rattle.revision_keeper.specs.Bounds.{writes_of}
 

@@ -1,4 +1,4 @@
-use Rattle.std.proofs.Common.{rules, ◌≡◌, ℕ, Some, None, Option, cond, unwrap_or, option_map, sym, ap, ◌∙◌}
+use Rattle.std.proofs.Common.{◌≡◌, ℕ, Some, Option, cond, unwrap_or, option_map, sym, ap, ◌∙◌}
 use Rattle.std.specs.Prelude.{option_and_then, bytes_eq}
 use Rattle.std.specs.Option.{option_copied_mut}
 use Rattle.std.specs.BTreeMap.{get, is_at}

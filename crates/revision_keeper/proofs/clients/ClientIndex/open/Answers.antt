@@ -1,13 +1,12 @@
-use Rattle.std.proofs.Common.{rules, ◌≡◌, ℕ, Some, None, Option, cond, unwrap_or, option_map, sym, ap, ◌∙◌}
-use Rattle.std.specs.Prelude.{option_and_then, bytes_eq}
-use Rattle.std.specs.Option.{option_copied_mut}
+use Rattle.std.proofs.Common.{rules, ◌≡◌, ℕ, Some, None, Option, unwrap_or, option_map, sym, ap, ◌∙◌}
+use Rattle.std.specs.Prelude.{option_and_then}
 use Rattle.std.specs.BTreeMap.{get, is_at}
 use Rattle.std.specs.Map.{lookup}
 use Rattle.wiki_titles.specs.Order.{bytes_cmp}
 use Rattle.wiki_model.specs.Titles.{Token}
 use Rattle.commit_feed.specs.declared.entry.Writes.{Writes}
 use Rattle.revision_keeper.specs.declared.clients.ClientRow.{ClientRow}
-use Rattle.revision_keeper.specs.Indexes.{no_writes, one_more, number_in}
+use Rattle.revision_keeper.specs.Indexes.{no_writes}
 use Rattle.revision_keeper.proofs.Rows.{row_same}
 use Rattle.revision_keeper.proofs.clients.ClientIndex.open.Goals as goal
 
