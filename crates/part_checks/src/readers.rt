@@ -152,10 +152,10 @@ fn titles_and_tokens_are_ordered_by_their_bytes(rt: HostRuntime) -> Result<(), R
 
 #[test]
 fn bad_bytes_are_those_of_no_title(rt: HostRuntime) {
-    let mut bad = 0;
+    let mut bad = 0u32;
     for byte in 0..=255u8 {
         if is_bad(byte) {
-            bad += 1;
+            bad = bad.saturating_add(1);
         }
     }
     assert_eq!(rt; bad, 41);
