@@ -75,8 +75,8 @@ fn has_value(field: &[u8], name: &[u8], wanted: &[u8]) -> bool
     }
 }
 
-/// The cookies of a field. Pairs are cut at `;`, and spaces around them are dropped. The first pair of each name
-/// counts; foreign and faulty cookies count as absent. It takes no memory.
+/// The cookies of a field, whose pairs stand between semicolons with or without spaces. A name that comes twice
+/// has its first value; a cookie that is faulty, or not ours, is as if it were not there. It takes no memory.
 pub fn read_cookies(field: &str) -> Cookies
     ensures { cookies_of result ≡ cookies_in field.now }
 {
