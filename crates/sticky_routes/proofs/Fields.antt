@@ -15,13 +15,22 @@ use Rattle.std.specs.Option.{option_or}
 abbrev pub named_in : (name : Bytes) → List Bytes → Option Bytes
 named_in name some = option_map (λ p. p.1) (find (λ p. bytes_eq p.0 name) (filter_map name_and_value some))
 
-pub record Left (name text : Bytes) (at : ℕ) : Type 0 where
+-- the first value is kept, as far as the pieces before the place say it
+pub record Left (name text : Bytes) (at : ℕ) (kept : Option Bytes) : Type 0 where
   pub within : at ≤ length text + 1
-  pub inside : at ≤ length text → first_named text name ≡ named_in name (pieces 59 (drop at text))
-  pub past : length text < at → first_named text name ≡ None
+  pub inside : at ≤ length text → first_named text name ≡ option_or kept (named_in name (pieces 59 (drop at text)))
+  pub past : length text < at → first_named text name ≡ kept
 
-pub left_all : (name text : Bytes) → Left name text 0
+pub left_all : (name text : Bytes) → Left name text 0 None
 left_all name text = record { within = omega arith; inside = λ _. refl; past = λ h. absurd (omega (arith, h)) }
+
+or_twice : (a b c : Option Bytes) → option_or a (option_or b c) ≡ option_or (option_or a b) c
+or_twice None b c = refl
+or_twice (Some x) b c = refl
+
+or_none : (a : Option Bytes) → option_or a None ≡ a
+or_none None = refl
+or_none (Some x) = refl
 
 last_piece : (mark : ℕ) (text : Bytes) → before mark text ≡ length text → pieces mark text ≡ take (before mark text) text ∷ []
 last_piece mark [] e = refl
@@ -63,41 +72,30 @@ piece_at text at = take (before 59 (drop at text)) (drop at text)
 before_most : (mark : ℕ) (text : Bytes) → before mark text ≤ length text
 before_most mark text = prefix_len-le-length (λ c. not (c == mark)) text
 
--- the piece at the front of what is left says the value, or is passed over
-told : (name text : Bytes) (at : ℕ) (value : Bytes) → at ≤ length text → Left name text at → Some value ≡ value_named name (piece_at text at) → Some value ≡ first_named text name
-told name text at value h is e = by (nat_lt (before 59 (drop at text)) (length (drop at text))) refl
-  where
-    by : (b : Bool) → nat_lt (before 59 (drop at text)) (length (drop at text)) ≡ b → Some value ≡ first_named text name
-    by true t = sym (is.inside h ∙ ap (named_in name) (first_piece 59 (drop at text) (grind (arith, nat_tests, t)))
-        ∙ named_first name (piece_at text at) (pieces 59 (drop (before 59 (drop at text) + 1) (drop at text))) (Some value) e)
-    by false t = let most = before_most 59 (drop at text) in
-        sym (is.inside h ∙ ap (named_in name) (last_piece 59 (drop at text) (grind (arith, nat_tests, t, most))) ∙ named_first name (piece_at text at) [] (Some value) e)
-
-passed : (name text : Bytes) (at : ℕ) → at ≤ length text → Left name text at → None ≡ value_named name (piece_at text at) → Left name text (at + (before 59 (drop at text) + 1))
-passed name text at h is e = record {
+-- the piece at the front of what is left is read
+passed : (name text : Bytes) (at : ℕ) (kept : Option Bytes) → at ≤ length text → Left name text at kept → Left name text (at + (before 59 (drop at text) + 1)) (option_or kept (value_named name (piece_at text at)))
+passed name text at kept h is = record {
   within = let most = before_most 59 (drop at text) in let total = length-drop at text in omega (arith, total, most, h);
   inside = λ more. is.inside h
-      ∙ ap (named_in name) (first_piece 59 (drop at text) (let most = before_most 59 (drop at text) in let total = length-drop at text in omega (arith, total, more, most)))
-      ∙ named_first name (piece_at text at) (pieces 59 (drop (before 59 (drop at text) + 1) (drop at text))) None e
-      ∙ ap (λ (t : Bytes). named_in name (pieces 59 t)) (drop-drop (before 59 (drop at text) + 1) at text);
+      ∙ ap (λ some. option_or kept (named_in name some)) (first_piece 59 (drop at text) (let most = before_most 59 (drop at text) in let total = length-drop at text in omega (arith, total, more, most)))
+      ∙ ap (option_or kept) (named_first name (piece_at text at) (pieces 59 (drop (before 59 (drop at text) + 1) (drop at text))) (value_named name (piece_at text at)) refl)
+      ∙ ap (λ (t : Bytes). option_or kept (option_or (value_named name (piece_at text at)) (named_in name (pieces 59 t)))) (drop-drop (before 59 (drop at text) + 1) at text)
+      ∙ or_twice kept (value_named name (piece_at text at)) (named_in name (pieces 59 (drop (at + (before 59 (drop at text) + 1)) text)));
   past = λ over. is.inside h
-      ∙ ap (named_in name) (last_piece 59 (drop at text) (let most = before_most 59 (drop at text) in let total = length-drop at text in omega (arith, total, most, over, h)))
-      ∙ named_first name (piece_at text at) [] None e;
+      ∙ ap (λ some. option_or kept (named_in name some)) (last_piece 59 (drop at text) (let most = before_most 59 (drop at text) in let total = length-drop at text in omega (arith, total, most, over, h)))
+      ∙ ap (option_or kept) (named_first name (piece_at text at) [] (value_named name (piece_at text at)) refl ∙ or_none (value_named name (piece_at text at)));
 }
 
 same_piece : (text rest piece : Bytes) (at count : ℕ) → rest ≡ drop at text → count ≡ before 59 rest → piece ≡ take count rest → piece ≡ piece_at text at
 same_piece text rest piece at count rest_is count_is piece_is = piece_is ∙ ap (λ n. take n rest) count_is ∙ ap (λ (r : Bytes). take (before 59 r) r) rest_is
 
-pub told_value : (name text rest piece value : Bytes) (at count : ℕ) → at ≤ length text → Left name text at → rest ≡ drop at text → count ≡ before 59 rest → piece ≡ take count rest
-    → Some value ≡ value_named name piece → Some value ≡ first_named text name
-told_value name text rest piece value at count h is rest_is count_is piece_is e =
-    told name text at value h is (e ∙ ap (value_named name) (same_piece text rest piece at count rest_is count_is piece_is))
-
-pub passed_piece : (name text rest piece : Bytes) (at count : ℕ) → at ≤ length text → Left name text at → rest ≡ drop at text → count ≡ before 59 rest → piece ≡ take count rest
-    → None ≡ value_named name piece → Left name text (at + (count + 1))
-passed_piece name text rest piece at count h is rest_is count_is piece_is e =
-    subst (λ n. Left name text (at + (n + 1))) (sym (count_is ∙ ap (before 59) rest_is))
-    (passed name text at h is (e ∙ ap (value_named name) (same_piece text rest piece at count rest_is count_is piece_is)))
+pub read_piece : (name text rest piece : Bytes) (kept after : Option Bytes) (at count : ℕ) → at ≤ length text → Left name text at kept → rest ≡ drop at text → count ≡ before 59 rest → piece ≡ take count rest
+    → after ≡ option_or kept (value_named name piece) → Left name text (at + (count + 1)) after
+read_piece name text rest piece kept after at count h is rest_is count_is piece_is e =
+    subst (λ n. Left name text (at + (n + 1)) after) (sym (count_is ∙ ap (before 59) rest_is))
+    (subst (λ (o : Option Bytes). Left name text (at + (before 59 (drop at text) + 1)) o)
+    (sym (e ∙ ap (λ (p : Bytes). option_or kept (value_named name p)) (same_piece text rest piece at count rest_is count_is piece_is)))
+    (passed name text at kept h is))
 
 -- the three cookies of a field together
 pub same_cookies : (position : Option Cookie) (use_master no_edge : Bool) (text : Bytes) → position ≡ option_and_then (λ value. if_good (position_in value)) (first_named text (codes "cpPosIndex"))
