@@ -1,11 +1,12 @@
 -- Readers of the words of a script's line: functions on bytes that give a value, or none outside the grammar.
 -- Titles, tokens and texts are the model's.
-use Rattle.std.specs.Prelude.{◌≡◌, ℕ, Bool, ◌&&◌, ◌||◌, List, length, Option, None, Some, Result, Ok, Err, nat_lt, nat_le, ◌==◌, if◌then◌else◌, slice_index}
+use Rattle.std.specs.Prelude.{◌≡◌, ℕ, Bool, ◌&&◌, ◌||◌, List, [], ◌∷◌, length, Option, None, Some, Result, Ok, Err, nat_lt, nat_le, ◌==◌, if◌then◌else◌, slice_index}
 use Rattle.std.specs.List.{position_or_len, before_first, after_first, list_all}
 use Rattle.std.specs.Str.{is_utf8}
 use Rattle.std.specs.Str.Parse.{digits_value}
 use Rattle.wiki_model.specs.Bytes.{Bytes}
-use Rattle.wiki_model.specs.Titles.{Title, Token, Text, is_digit, is_letter, is_token, title_of, with_line_feeds}
+use Rattle.wiki_model.specs.Titles.{Title, Token, Text, is_digit, is_token, title_of, with_line_feeds}
+use Rattle.wiki_model.specs.Script.{unescaped}
 use Rattle.wiki_model.specs.Html.{ok_of}
 use Rattle.drill_script.specs.declared.reading.ReadFault.{ReadFault}
 use Rattle.drill_script.specs.declared.reading.ReadFault.TheVariants as faults
@@ -45,15 +46,20 @@ title_in word = ok_of (title_of word)
 abbrev pub token_in : Bytes → Option Token
 token_in word = if is_token word then Some word else None
 
--- a letter or a digit
-abbrev pub is_plain : ℕ → Bool
-is_plain c = is_letter c || is_digit c
+-- behind a backslash: the letter that it spells, and what stands behind that
+abbrev pub letter_at : Bytes → Option (Bytes × Bytes)
+letter_at [] = None
+letter_at (c ∷ text) = if c == 110 then Some (10 ∷ [], text) else (if c == 92 then Some (92 ∷ [], text) else None)
 
--- a text of letters and digits, at most 65,536
+-- a text with line feeds at the ends of its lines has at most 65,536 bytes
+abbrev pub short_text : Bytes → Option Text
+short_text plain = if nat_le (length (with_line_feeds plain)) 65_536 then Some (with_line_feeds plain) else None
+
+-- a text with its escapes undone
 unfoldable pub text_in : Bytes → Option Text
-text_in word =
-    if list_all is_plain word then (if nat_le (length (with_line_feeds word)) 65_536 then Some (with_line_feeds word) else None)
-    else None
+text_in word = do
+  plain ← unescaped word
+  short_text plain
 
 -- a line is UTF-8
 abbrev pub utf8_of : Bytes → Option Bytes

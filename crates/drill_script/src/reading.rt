@@ -1,10 +1,12 @@
 // Readers of the words of a line.
-ghost use Rattle.std.specs.Prelude.{◌≡◌, ◌≤◌, ℕ, IfOk};
+ghost use Rattle.std.specs.Prelude.{◌≡◌, ◌≤◌, ◌<◌, ℕ, length, None, Some, IfOk, IfSome, MatchOption};
 ghost use Rattle.std.specs.List.{list_all};
+ghost use Rattle.std.specs.String.{string_bytes};
+ghost use Rattle.wiki_model.specs.Script.{unescaped};
 ghost use Rattle.wiki_model.specs.Titles.{is_digit};
-ghost use Rattle.drill_script.specs.Reading.{Gives, cut_at, word_at, number_of, is_number, title_in, token_in, text_in, utf8_of, is_plain};
+ghost use Rattle.drill_script.specs.Reading.{Gives, cut_at, word_at, number_of, is_number, title_in, token_in, letter_at, short_text, text_in, utf8_of};
 
-use std::alloc::Global;
+use std::alloc::{AllocError, Global};
 use std::str;
 use wiki_titles::{Text, TextFault, Title, TitleFault, Token, TokenFault};
 
@@ -13,6 +15,17 @@ use wiki_titles::{Text, TextFault, Title, TitleFault, Token, TokenFault};
 pub enum ReadFault {
     Form,
     Memory,
+}
+
+impl From<AllocError> for ReadFault {
+    ghost use Rattle.std.specs.Prelude.{◌≡◌};
+    ghost use Rattle.drill_script.specs.declared.reading.ReadFault.TheVariants.{Memory};
+
+    ghost from_gives = { λ _ fault. fault ≡ Memory };
+
+    fn from(_error: AllocError) -> ReadFault {
+        ReadFault::Memory
+    }
 }
 
 /// A word, and what stands behind the one space after it.
@@ -76,30 +89,65 @@ pub fn token_of(alloc: Global, word: &str) -> Result<Token, ReadFault>
     }
 }
 
-fn is_plain_byte(byte: u8) -> bool
-    ensures { result ≡ is_plain byte }
+/// The letter that a backslash before the text spells, and what stands behind it.
+fn letter_at(text: &str) -> Option<(&str, &str)>
+    ensures letter { MatchOption result (letter_at text.now ≡ None) (λ x. letter_at text.now ≡ Some (x.0.now, x.1.now)) }
+    ensures shorter { IfSome result (λ x. length x.1.now < length text.now) }
 {
-    65 <= byte && byte <= 90 || 97 <= byte && byte <= 122 || is_digit(byte)
-}
-
-fn is_plain(bytes: &[u8]) -> bool
-    ensures { result ≡ list_all is_plain bytes.now }
-{
-    bytes.iter().all(|b| is_plain_byte(*b))
-}
-
-#[tactic(auto, unfolding(crate::specs::Reading::text_in))]
-pub fn text_of(alloc: Global, word: &str) -> Result<Text, ReadFault>
-    ensures { Gives (λ t. t) result (text_in word.now) }
-{
-    if !is_plain(word.as_bytes()) {
-        return Err(ReadFault::Form);
+    if let Some(rest) = text.strip_prefix('n') {
+        return Some(("\n", rest));
     }
-    match Text::parse(alloc, word) {
+    if let Some(rest) = text.strip_prefix('\\') {
+        return Some(("\\", rest));
+    }
+    None
+}
+
+/// What stands before the first backslash, and what behind it.
+#[tactic(auto, unfolding(crate::specs::Reading::cut_at))]
+fn backslash_at(text: &str) -> Option<(&str, &str)>
+    ensures cut { MatchOption result (cut_at 92 text.now ≡ None) (λ x. cut_at 92 text.now ≡ Some (x.0.now, x.1.now)) }
+    ensures shorter { IfSome result (λ x. length x.1.now < length text.now) }
+{
+    text.split_once('\\')
+}
+
+/// The text with its escapes undone: `\n` is a line feed, `\\` a backslash. One pass.
+#[tactic(auto, using(crate::proofs::Escapes::none_left))]
+fn unescaped(alloc: Global, word: &str) -> Result<String, ReadFault>
+    ensures { Gives (λ plain. string_bytes plain) result (unescaped word.now) }
+{
+    let mut plain = String::new(alloc);
+    let mut rest = word;
+    while let Some((front, behind)) = backslash_at(rest) {
+        let Some((letter, after)) = letter_at(behind) else {
+            return Err(ReadFault::Form);
+        };
+        plain.push_str(front)?;
+        plain.push_str(letter)?;
+        rest = after;
+    }
+    plain.push_str(rest)?;
+    Ok(plain)
+}
+
+fn short_text(alloc: Global, plain: &str) -> Result<Text, ReadFault>
+    ensures { Gives (λ t. t) result (short_text plain.now) }
+{
+    match Text::parse(alloc, plain) {
         Ok(text) => Ok(text),
         Err(TextFault::Memory) => Err(ReadFault::Memory),
         Err(TextFault::TooLong { .. }) => Err(ReadFault::Form),
     }
+}
+
+/// A page's text, as the rest of a line spells it.
+#[tactic(auto, unfolding(crate::specs::Reading::text_in))]
+pub fn text_of(alloc: Global, word: &str) -> Result<Text, ReadFault>
+    ensures { Gives (λ t. t) result (text_in word.now) }
+{
+    let plain = unescaped(alloc, word)?;
+    short_text(alloc, plain.as_str())
 }
 
 pub fn utf8_of(line: &[u8]) -> Result<&str, ReadFault>

@@ -34,8 +34,12 @@ fn outcome(
 
 #[test]
 fn a_script_has_its_report(rt: HostRuntime) -> Result<(), Fail> {
-    let cases: [(&str, &str); 6] = [
+    let cases: [(&str, &str); 7] = [
         ("end\n", "end answers=0 entries=0\n"),
+        (
+            "edit 1 t1 Template:X 0 hi\\nthere\nedit 1 t2 A 0 {{x}}\napply home 0 1\nview home 2 - 0 A\napply home 0 1\nview home 2 - 0 A\nend\n",
+            "1 saved entry=1 revision=1 cookie=1@0\n2 saved entry=2 revision=1 cookie=2@0\n4 no-page source=1\n6 ok source=2 from=replica:0 lagged=0 bytes=60\n<!DOCTYPE html>\n<title>A</title>\n<h1>A</h1>\n<p>hi there</p>\nend answers=4 entries=2\n",
+        ),
         (
             "edit 1 t1 A 0 one\nview home 2 - 0 A\napply home 0 1\nview home 2 - 0 A\nend\n",
             "1 saved entry=1 revision=1 cookie=1@0\n2 no-page source=0\n4 ok source=1 from=replica:0 lagged=0 bytes=55\n<!DOCTYPE html>\n<title>A</title>\n<h1>A</h1>\n<p>one</p>\nend answers=3 entries=1\n",
@@ -65,9 +69,111 @@ fn a_script_has_its_report(rt: HostRuntime) -> Result<(), Fail> {
     Ok(())
 }
 
+// A script that edits these pages one after another, applies them all and views `A`.
+fn page_script(alloc: Global, edits: &[(&str, &str)]) -> Result<String, AllocError> {
+    let mut script = String::new(alloc);
+    for (i, (title, text)) in edits.iter().enumerate() {
+        let line = format!(in alloc; "edit 1 t{i} {title} 0 {text}\n")?;
+        script.push_str(line.as_str())?;
+    }
+    script.push_str("apply home 0 9\nview home 2 - 0 A\nend\n")?;
+    Ok(script)
+}
+
+// The report of that script, where the view shows these blocks, and this line of a notice.
+fn page_report(
+    alloc: Global,
+    edits: usize,
+    notice: &str,
+    blocks: &str,
+) -> Result<String, AllocError> {
+    let mut report = String::new(alloc);
+    for i in 1..edits + 1 {
+        let line = format!(in alloc; "{i} saved entry={i} revision=1 cookie={i}@0\n")?;
+        report.push_str(line.as_str())?;
+    }
+    let page = format!(in alloc;
+        "<!DOCTYPE html>\n<title>A</title>\n{notice}<h1>A</h1>\n{blocks}"
+    )?;
+    let bytes = page.len();
+    let line = edits + 2;
+    let said = format!(in alloc;
+        "{line} ok source={edits} from=replica:0 lagged=0 bytes={bytes}\n"
+    )?;
+    let answers = edits + 1;
+    let end = format!(in alloc; "end answers={answers} entries={edits}\n")?;
+    report.push_str(said.as_str())?;
+    report.push_str(page.as_str())?;
+    report.push_str(end.as_str())?;
+    Ok(report)
+}
+
+#[test]
+fn texts_are_shown_as_pages(rt: HostRuntime) -> Result<(), Fail> {
+    let cases: [(&[(&str, &str)], &str, &str); 21] = [
+        (&[("A", "")], "", ""),
+        (&[("A", "one")], "", "<p>one</p>\n"),
+        (&[("A", "a\\nb\\n\\nc")], "", "<p>a\nb</p>\n<p>c</p>\n"),
+        (&[("A", "== H ==")], "", "<h2>H</h2>\n"),
+        (&[("A", "=x")], "", "<p>=x</p>\n"),
+        (&[("A", "====")], "", "<p>====</p>\n"),
+        (
+            &[("A", "* a\\n* b")],
+            "",
+            "<ul>\n<li>a</li>\n<li>b</li>\n</ul>\n",
+        ),
+        (&[("A", "'''b''' ''i''")], "", "<p><b>b</b> <i>i</i></p>\n"),
+        (&[("A", "'''''x'''''")], "", "<p><b><i>x</i></b></p>\n"),
+        (&[("A", "it''s")], "", "<p>it''s</p>\n"),
+        (
+            &[("A", "[[c|see]]")],
+            "",
+            "<p><a href=\"/wiki/C\">see</a></p>\n",
+        ),
+        (&[("A", "[[a#b]]")], "", "<p>[[a#b]]</p>\n"),
+        (
+            &[("A", "a<b & \"c\"")],
+            "",
+            "<p>a&lt;b &amp; &quot;c&quot;</p>\n",
+        ),
+        (
+            &[("A", "{{x}}"), ("Template:X", "hi\\nthere")],
+            "",
+            "<p>hi there</p>\n",
+        ),
+        (&[("A", "{{x}}")], "", "<p>{{x}}</p>\n"),
+        (&[("A", "{{x|1}}")], "", "<p>{{x|1}}</p>\n"),
+        (
+            &[("A", "one"), ("MediaWiki:Sitenotice", "'''n'''")],
+            "<div><b>n</b></div>\n",
+            "<p>one</p>\n",
+        ),
+        (
+            &[
+                ("Template:Y", "yes"),
+                ("Template:X", "a {{y}} b"),
+                ("A", "{{x}}"),
+            ],
+            "",
+            "<p>a {{y}} b</p>\n",
+        ),
+        (&[("A", "one\r")], "", "<p>one</p>\n"),
+        (&[("A", "a\\\\n\u{e9} ")], "", "<p>a\\n\u{e9} </p>\n"),
+        (&[("A", "a\\n\r\\n\rb")], "", "<p>a</p>\n<p>b</p>\n"),
+    ];
+    for (edits, notice, blocks) in cases {
+        let script = page_script(rt.alloc(), edits)?;
+        let (status, text) = outcome(rt.alloc(), &["drill"], script.as_bytes(), &[], &[])?;
+        let wanted = page_report(rt.alloc(), edits.len(), notice, blocks)?;
+        assert_eq!(rt; status, Status::Ok);
+        assert_eq!(rt; text.as_slice(), wanted.as_bytes());
+    }
+    Ok(())
+}
+
 #[test]
 fn refused_input_names_its_line(rt: HostRuntime) -> Result<(), Fail> {
-    let cases: [(&[u8], u64); 25] = [
+    let cases: [(&[u8], u64); 27] = [
         (b"", 1),
         (b"at 5\n", 1),
         (b"end", 1),
@@ -76,8 +182,10 @@ fn refused_input_names_its_line(rt: HostRuntime) -> Result<(), Fail> {
         (b"end\r\n", 1),
         (b"\nend\n", 1),
         (b"edit 1 t1 A 0 one\n", 2),
-        (b"edit 1 t1 A 0 one\r\nend\n", 1),
-        (b"edit 1 t1 A 0 one two\nend\n", 1),
+        (b"edit 1 t1 A 0 one\r\nend\r\n", 2),
+        (b"edit 1 t1 A 0 a\\tb\nend\n", 1),
+        (b"edit 1 t1 A 0 a\\\nend\n", 1),
+        (b"edit 1 t1 A 0 a\\\\\\\nend\n", 1),
         (b"edit 1 t1 A 0\nend\n", 1),
         (b"edit 1 t1 A 00 one\nend\n", 1),
         (b"edit  1 t1 A 0 one\nend\n", 1),
