@@ -83,26 +83,30 @@ fn page_script(alloc: Global, edits: &[(&str, &str)]) -> Result<String, AllocErr
 // The report of that script, where the view shows these blocks, and this line of a notice.
 fn page_report(
     alloc: Global,
-    edits: usize,
+    edits: &[(&str, &str)],
     notice: &str,
     blocks: &str,
 ) -> Result<String, AllocError> {
     let mut report = String::new(alloc);
-    for i in 1..edits + 1 {
-        let line = format!(in alloc; "{i} saved entry={i} revision=1 cookie={i}@0\n")?;
-        report.push_str(line.as_str())?;
+    for (i, _) in edits.iter().enumerate() {
+        let number = i + 1;
+        let saved = format!(in alloc;
+            "{number} saved entry={number} revision=1 cookie={number}@0\n"
+        )?;
+        report.push_str(saved.as_str())?;
     }
     let page = format!(in alloc;
         "<!DOCTYPE html>\n<title>A</title>\n{notice}<h1>A</h1>\n{blocks}"
     )?;
     let bytes = page.len();
-    let line = edits + 2;
-    let said = format!(in alloc;
-        "{line} ok source={edits} from=replica:0 lagged=0 bytes={bytes}\n"
+    let entries = edits.len();
+    let answers = entries + 1;
+    let line = entries + 2;
+    let shown = format!(in alloc;
+        "{line} ok source={entries} from=replica:0 lagged=0 bytes={bytes}\n"
     )?;
-    let answers = edits + 1;
-    let end = format!(in alloc; "end answers={answers} entries={edits}\n")?;
-    report.push_str(said.as_str())?;
+    let end = format!(in alloc; "end answers={answers} entries={entries}\n")?;
+    report.push_str(shown.as_str())?;
     report.push_str(page.as_str())?;
     report.push_str(end.as_str())?;
     Ok(report)
@@ -164,7 +168,7 @@ fn texts_are_shown_as_pages(rt: HostRuntime) -> Result<(), Fail> {
     for (edits, notice, blocks) in cases {
         let script = page_script(rt.alloc(), edits)?;
         let (status, text) = outcome(rt.alloc(), &["drill"], script.as_bytes(), &[], &[])?;
-        let wanted = page_report(rt.alloc(), edits.len(), notice, blocks)?;
+        let wanted = page_report(rt.alloc(), edits, notice, blocks)?;
         assert_eq!(rt; status, Status::Ok);
         assert_eq!(rt; text.as_slice(), wanted.as_bytes());
     }
