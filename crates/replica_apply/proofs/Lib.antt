@@ -1,0 +1,4 @@
+pub mod Fronts
+pub mod Stages
+pub mod Gathering
+pub mod Lists
