@@ -1,5 +1,5 @@
 -- A replica of a history, with one entry more.
-use Rattle.std.proofs.Common.{◌≡◌, ℕ, suc, ◌+◌, Bool, true, false, cond, List, [], ◌∷◌, ◌++◌, length, take, Option, Some, None, Result, Ok, Err, refl, sym, ap, ◌∙◌, arith}
+use Rattle.std.proofs.Common.{◌≡◌, ℕ, suc, Bool, true, false, cond, List, [], ◌∷◌, ◌++◌, length, Option, Some, Result, Ok, Err, refl, sym, ap, ◌∙◌, arith}
 use Rattle.std.specs.Prelude.{option_map, bytes_eq, if◌then◌else◌}
 use Rattle.std.specs.BTreeMap.{BTreeMap, Updates, is_at}
 use Rattle.std.specs.Cmp.Lexicographic.{texts_ties}
@@ -7,14 +7,14 @@ use Rattle.std.proofs.Math.Seq.{take-length}
 use Rattle.wiki_titles.specs.Order.{bytes_cmp}
 use Rattle.wiki_model.specs.Bytes.{last_of}
 use Rattle.wiki_model.specs.Titles.{Title, Text}
-use Rattle.wiki_model.specs.History.{Entry, Beat, Committed, Numbered, commits_on, stamp_at, stamp_of, page_text}
+use Rattle.wiki_model.specs.History.{Entry, Beat, Committed, Numbered, commits_on, stamp_at, page_text}
 use Rattle.wiki_model.proofs.HistoryLaws.{on-push_beat, on-push_same, on-push_other, length-push}
 use Rattle.wiki_model.proofs.HistoryGrowth.{stamp-after}
 use Rattle.farm_base.specs.declared.outside.Memory.{Memory}
 use Rattle.replica_apply.specs.declared.replica.Applied.{Applied}
 use Rattle.replica_apply.specs.declared.replica.Applied.TheVariants.{Applied as Done, Repeat, Gap}
-use Rattle.replica_apply.specs.Kept.{Kept, page_in, page_at, Puts, IsFront}
-use Rattle.replica_apply.specs.Taken.{page_after, Takes, Answers, Follows}
+use Rattle.replica_apply.specs.Kept.{Kept, page_at, Puts, IsFront}
+use Rattle.replica_apply.specs.Taken.{page_after, Takes, Applies, Follows}
 
 abbrev last_text : List Numbered → Option Text
 last_text found = option_map (λ n. n.commit.edit.text) (last_of found)
@@ -39,7 +39,7 @@ taken old new e h takes is =
       pages = λ t. takes.pages t ∙ ap (page_after e t) (is.pages t ∙ whole h t) ∙ sym (whole (h ++ e ∷ []) t ∙ pushed h e t);
     }
 
-pub follows : (old new : Kept) (n : ℕ) (e : Entry) (result : Result Applied Memory) → Answers old new n e result → Follows old new e result
+pub follows : (old new : Kept) (n : ℕ) (e : Entry) (result : Result Applied Memory) → Applies old new n e result → Follows old new e result
 follows old new n e (Ok Done) does = λ h is. taken old new e h does.1 is
 follows old new n e (Ok (Repeat have)) does = tt
 follows old new n e (Ok (Gap have got)) does = tt

@@ -37,3 +37,6 @@ pub record IsStage (pages : Templates) (text : Bytes) (stages : ℕ) (taken : Te
   pub unread_ones : (inner : Text) → Contains unread inner → IsTaken taken inner
   pub others : (via : Title) (inner : Text) → taken via ≡ Some inner
       → Contains unread inner ⊎ ((name : Title) (more : Text) → Contains (names_from (in_line inner)) name → pages name ≡ Some more → taken name ≡ Some more)
+
+abbrev pub IsGathered : (pages : Templates) (text : Bytes) (taken : Templates) → Type 0
+IsGathered pages text taken = (unread : List Text) × IsStage pages text 4 taken unread

@@ -1,10 +1,10 @@
 // The template pages that a text reaches.
-ghost use Rattle.std.specs.Prelude.{◌≡◌, ◌++◌, ◌∷◌, [], ℕ, List, IfOk, OnOk};
+ghost use Rattle.std.specs.Prelude.{◌≡◌, ◌++◌, ◌∷◌, [], IfOk, OnOk};
 ghost use Rattle.std.specs.List.{Contains};
 ghost use Rattle.page_markup.specs.Names.{AreNames, names_from};
 ghost use Rattle.replica_apply.specs.Kept.{page_at, Puts};
 ghost use Rattle.replica_apply.specs.Reached.{AreTemplates, IsListOf, in_line};
-ghost use Rattle.replica_apply.specs.Gathered.{Gathers, IsNamedBy, IsPart, IsStage};
+ghost use Rattle.replica_apply.specs.Gathered.{Gathers, IsGathered, IsNamedBy, IsPart};
 
 use crate::pages::put;
 use std::alloc::{AllocError, Global};
@@ -143,7 +143,7 @@ fn gather(
     pages: &BTreeMap<Title, Text>,
     text: &Text,
 ) -> Result<BTreeMap<Title, Text>, AllocError>
-    ensures { IfOk result (λ taken. (unread : List (List ℕ)) × IsStage (page_at pages.now) text.now 4 (page_at taken) unread) }
+    ensures { IfOk result (λ taken. IsGathered (page_at pages.now) text.now (page_at taken)) }
 {
     let mut taken = BTreeMap::new(alloc);
     let mut unread = first_stage(alloc, pages, &mut taken, text)?;

@@ -3,7 +3,7 @@ ghost use Rattle.std.specs.Prelude.{◌≡◌, OnOk, OnErr};
 ghost use Rattle.wiki_model.specs.Titles.{Title as TitleText};
 ghost use Rattle.commit_feed.specs.Shown.{entry_of};
 ghost use Rattle.replica_apply.specs.Kept.{page_at};
-ghost use Rattle.replica_apply.specs.Taken.{page_after};
+ghost use Rattle.replica_apply.specs.Taken.{page_after, IsCommit};
 
 use crate::pages::put;
 use crate::snapshot::{self, Snapshot};
@@ -48,6 +48,7 @@ impl Model for Replica {
 fn bind(pages: &mut BTreeMap<Title, Text>, entry: &Entry) -> Result<(), AllocError>
     ensures ok { OnOk result ((name : TitleText) → page_at pages.new name ≡ page_after (entry_of entry.now) name (page_at pages.old name)) }
     ensures err { OnErr result (pages.new.entries ≡ pages.old.entries) }
+    ensures memory { OnErr result (IsCommit (entry_of entry.now)) }
 {
     match entry {
         Entry::Beat { .. } => Ok(()),
@@ -62,8 +63,8 @@ impl Replica {
     ghost use Rattle.std.specs.Prelude.{◌≡◌, [], IfOk};
     ghost use Rattle.commit_feed.specs.Shown.{entry_of};
     ghost use Rattle.replica_apply.specs.Kept.{IsFront};
-    ghost use Rattle.replica_apply.specs.Taken.{Answers, Follows};
-    ghost use Rattle.replica_apply.specs.Snapshots.{IsSnapshot};
+    ghost use Rattle.replica_apply.specs.Taken.{Applies, Follows};
+    ghost use Rattle.replica_apply.specs.Snapshots.{IsSnapshot, IsEnough};
 
     /// A replica that has applied nothing. It takes no memory.
     pub fn new(alloc: Global) -> Self
@@ -92,7 +93,7 @@ impl Replica {
 
     // What `apply` does.
     fn take(&mut self, n: u64, entry: &Entry) -> Result<Applied, Memory>
-        ensures { Answers self.old self.new n (entry_of entry.now) result }
+        ensures { Applies self.old self.new n (entry_of entry.now) result }
     {
         let have = self.applied;
         if n <= have {
@@ -115,7 +116,7 @@ impl Replica {
     /// as it was. It costs a logarithm of the titles.
     #[tactic(auto, using(crate::proofs::Fronts::follows))]
     pub fn apply(&mut self, n: u64, entry: &Entry) -> Result<Applied, Memory>
-        ensures answers { Answers self.old self.new n (entry_of entry.now) result }
+        ensures applies { Applies self.old self.new n (entry_of entry.now) result }
         ensures follows { Follows self.old self.new (entry_of entry.now) result }
     {
         self.take(n, entry)
@@ -130,7 +131,8 @@ impl Replica {
         title: &Title,
         reading: Moment,
     ) -> Result<Snapshot, Memory>
-        ensures { IfOk result (λ s. IsSnapshot self.now title.now reading s) }
+        ensures exact { IfOk result (λ s. IsSnapshot self.now title.now reading s) }
+        ensures enough { IfOk result (λ s. IsEnough self.now title.now s) }
     {
         match snapshot::take(alloc, self.applied, self.stamp, &self.pages, title, reading) {
             Ok(snapshot) => Ok(snapshot),

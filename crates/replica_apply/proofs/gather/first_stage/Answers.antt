@@ -1,6 +1,5 @@
-use Rattle.std.proofs.Common.{subst, ap, sym, ◌∙◌, [], List}
+use Rattle.std.proofs.Common.{subst, []}
 use Rattle.std.specs.List.{Contains}
-use Rattle.wiki_model.specs.Titles.{Text, Title}
 use Rattle.page_markup.specs.Names.{names_from}
 use Rattle.replica_apply.specs.Kept.{page_at}
 use Rattle.replica_apply.specs.Gathered.{Gathers}

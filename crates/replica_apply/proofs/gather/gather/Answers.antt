@@ -1,4 +1,4 @@
-use Rattle.std.proofs.Common.{arith, refl, ◌<◌, ap, subst, []}
+use Rattle.std.proofs.Common.{arith, ap, subst, []}
 use Rattle.std.specs.Map.{lookup}
 use Rattle.std.specs.BTreeMap.{is_at}
 use Rattle.wiki_titles.specs.Order.{bytes_cmp}

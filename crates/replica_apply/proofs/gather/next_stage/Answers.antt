@@ -1,6 +1,6 @@
 use Rattle.std.proofs.Common.{[]}
 use Rattle.replica_apply.specs.Kept.{page_at}
-use Rattle.replica_apply.proofs.Gathering.{no_texts, text_more, all_texts}
+use Rattle.replica_apply.proofs.Gathering.{text_more}
 use Rattle.replica_apply.proofs.gather.next_stage.Goals as goal
 
 pub loop-text-preserved : goal.loop-text-preserved
