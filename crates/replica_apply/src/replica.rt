@@ -122,9 +122,11 @@ impl Replica {
         self.take(n, entry)
     }
 
-    /// The page of the title with its templates and the notice, as this front has them. `reading` is what
-    /// the clock reads. Each template's text is read for names once; each page that is looked for costs a
-    /// logarithm of the titles. Texts are shared.
+    /// The page of the title with its templates and the notice, as this front has them: what is rendered
+    /// from them is the front's page, in every markup. `reading` is what the clock reads.
+    ///
+    /// The page's text and each template's text are read for names once; each title that they name costs a
+    /// logarithm of the titles. No other page is looked at. Texts are shared.
     pub fn snapshot(
         &self,
         alloc: Global,
