@@ -1,0 +1,18 @@
+use Rattle.std.proofs.Common.{subst}
+use Rattle.std.specs.List.{Contains}
+use Rattle.page_markup.specs.Names.{names_from}
+use Rattle.replica_apply.specs.Kept.{page_at}
+use Rattle.replica_apply.specs.Reached.{in_line}
+use Rattle.replica_apply.specs.Gathered.{Gathers}
+use Rattle.replica_apply.proofs.Gathering.{by_names}
+use Rattle.replica_apply.proofs.gather.read_text.Goals as goal
+
+pub returns : goal.returns
+returns c =
+    let P = page_at c.args.pages.now in
+    let M = page_at c.args.taken.now in
+    let N = page_at c.add_pages.new.taken in
+    let before = c.args.unread.now.items in
+    let after = c.add_pages.new.unread.items in
+    by_names P M N before after (names_from (in_line c.args.text.now)) c.in_ok-names.names.items c.in_ok-names.ensures
+    (subst (λ names. Gathers P M N before after (Contains names)) c.deref.ensures.value c.in_ok-add_pages.ensures)
