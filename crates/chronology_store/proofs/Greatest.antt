@@ -5,11 +5,12 @@ use Rattle.std.proofs.lemmas.Bool.Decides.{nat_tests}
 use Rattle.std.proofs.lemmas.Slice.Eq.{bytes_eq-Decides}
 use Rattle.wiki_model.specs.Titles.{Client}
 use Rattle.chronology_store.specs.declared.rows.Held.{Held}
+use Rattle.chronology_store.specs.declared.Written.{Written}
 use Rattle.chronology_store.specs.declared.rows.Row.{Row}
-use Rattle.chronology_store.specs.Held.{later, with_told, unless_past, known_by}
+use Rattle.chronology_store.specs.Held.{later, with_told, with_reserved, held_by, told_one, told_by, unless_past, known_by}
 use Rattle.chronology_store.specs.Rows.{Positions, row_of, Changes}
 use Rattle.chronology_store.proofs.Lookups.{same_client}
-use Rattle.chronology_store.specs.Calls.{Call, Told, Swept, IsAfter, IsTold, IsConsistent, AreSweptBy, IsGreatest, FindsGreatest}
+use Rattle.chronology_store.specs.Calls.{Call, Told, Swept, Rebuilt, Reserved, IsAfter, IsTold, IsConsistent, AreSweptBy, IsGreatest, FindsGreatest}
 
 -- the held index is at least this one
 abbrev Covers : Option Held → Held → Type 0
@@ -110,6 +111,47 @@ told_either client now calls other told before positions changes earlier = by (b
     by false e =
         subst (IsHeld client now (Told other told ∷ calls)) (sym (ap (λ (r : Row). r.held) (changes.others client e))) (told_other client now calls other told (row_of before client).held e earlier)
 
+-- one commit of a rebuild is told
+one_written : (client : Client) (now : ℕ) (calls : List Call) (written : Written) (row : Row) → IsHeld client now calls row.held
+    → IsHeld client now (Told written.client (held_by written) ∷ calls) (told_one client written row).held
+one_written client now calls written row is = by (bytes_eq written.client client) refl
+  where
+    by : (b : Bool) → bytes_eq written.client client ≡ b → IsHeld client now (Told written.client (held_by written) ∷ calls) (cond b (with_told (held_by written) row) row).held
+    by true e = told_own client now calls written.client (held_by written) row.held ((bytes_eq-Decides written.client client).0 e) is
+    by false e = told_other client now calls written.client (held_by written) row.held e is
+
+rebuilt_none : (client : Client) (now : ℕ) (calls : List Call) (held : Option Held) → IsHeld client now calls held → IsHeld client now (Rebuilt [] ∷ calls) held
+rebuilt_none client now calls held is = record {
+  told = λ some e. inr (is.told some e);
+  covered = λ some was. elim was [ inl never ↦ absurd never | inr earlier ↦ is.covered some earlier ];
+}
+
+rebuilt_more : (client : Client) (now : ℕ) (calls : List Call) (written : Written) (rows : List Written) (held : Option Held)
+    → IsHeld client now (Rebuilt rows ∷ Told written.client (held_by written) ∷ calls) held → IsHeld client now (Rebuilt (written ∷ rows) ∷ calls) held
+rebuilt_more client now calls written rows held is = record {
+  told = λ some e. elim (is.told some e) [ inl later ↦ inl (inr later) | inr before ↦ elim before [ inl here ↦ inl (inl here) | inr earlier ↦ inr earlier ] ];
+  covered = λ some was. elim was [
+    | inl new ↦ elim new [ inl here ↦ is.covered some (inr (inl here)) | inr later ↦ is.covered some (inl later) ]
+    | inr earlier ↦ is.covered some (inr (inr earlier))
+  ];
+}
+
+rebuilt_held : (client : Client) (now : ℕ) (rows : List Written) (calls : List Call) (row : Row) → IsHeld client now calls row.held
+    → IsHeld client now (Rebuilt rows ∷ calls) (told_by rows client row).held
+rebuilt_held client now [] calls row is = rebuilt_none client now calls row.held is
+rebuilt_held client now (written ∷ rows) calls row is =
+    rebuilt_more client now calls written rows (told_by rows client (told_one client written row)).held
+    (rebuilt_held client now rows (Told written.client (held_by written) ∷ calls) (told_one client written row) (one_written client now calls written row is))
+
+-- a reserved row holds what it held
+reserved_held : (other client : Client) (before positions : Positions) → Changes other with_reserved before positions → (row_of positions client).held ≡ (row_of before client).held
+reserved_held other client before positions changes = by (bytes_eq other client) refl
+  where
+    by : (b : Bool) → bytes_eq other client ≡ b → (row_of positions client).held ≡ (row_of before client).held
+    by true e =
+        subst (λ (c : Client). (row_of positions c).held ≡ (row_of before c).held) ((bytes_eq-Decides other client).0 e) (ap (λ (r : Row). r.held) changes.here)
+    by false e = ap (λ (r : Row). r.held) (changes.others client e)
+
 is_held : (calls : List Call) (positions : Positions) (client : Client) (now : ℕ) → IsAfter calls positions → IsConsistent client calls → AreSweptBy now calls
     → IsHeld client now calls (row_of positions client).held
 is_held [] positions client now after consistent swept_by = record {
@@ -122,6 +164,12 @@ is_held (Told other told ∷ calls) positions client now (before, after, changes
 is_held (Swept at ∷ calls) positions client now (before, after, sweeps) consistent (le, swept_by) =
     subst (IsHeld client now (Swept at ∷ calls)) (sym (ap (λ (r : Row). r.held) (sweeps.each client)))
     (swept_held client now at calls (row_of before client).held le consistent (is_held calls before client now after consistent swept_by))
+is_held (Rebuilt rows ∷ calls) positions client now (before, after, tells) consistent swept_by =
+    subst (IsHeld client now (Rebuilt rows ∷ calls)) (sym (ap (λ (r : Row). r.held) (tells.each client)))
+    (rebuilt_held client now rows calls (row_of before client) (is_held calls before client now after (λ a b told_a told_b. consistent a b (inr told_a) (inr told_b)) swept_by))
+is_held (Reserved other ∷ calls) positions client now (before, after, changes) consistent swept_by =
+    let is = is_held calls before client now after consistent swept_by in
+    subst (IsHeld client now (Reserved other ∷ calls)) (sym (reserved_held other client before positions changes)) (record { told = is.told; covered = is.covered })
 
 past : (now : ℕ) (held : Held) → held.expires ≤ now → unless_past now held ≡ None
 past now held h = let e : nat_lt now held.expires ≡ false = grind (arith, nat_tests, h) in rw e refl

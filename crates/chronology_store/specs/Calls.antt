@@ -2,24 +2,35 @@
 use Rattle.std.specs.Prelude.{ℕ, ◌≡◌, ◌<◌, ◌≤◌, ◌⊎◌, List, [], ◌∷◌, None, option_map}
 use Rattle.wiki_model.specs.Titles.{Client}
 use Rattle.chronology_store.specs.declared.rows.Held.{Held}
-use Rattle.chronology_store.specs.Held.{with_told, unless_past, known_by}
-use Rattle.chronology_store.specs.Rows.{Positions, row_of, find_in, Changes, Sweeps}
+use Rattle.chronology_store.specs.declared.Written.{Written}
+use Rattle.chronology_store.specs.Held.{with_told, with_reserved, held_by, unless_past, known_by}
+use Rattle.chronology_store.specs.Rows.{Positions, row_of, find_in, Changes, Sweeps, TellsAll}
 
--- a note or a relay tells a client's position, as does each row of a rebuild; a sweep has a moment
+-- a note or a relay tells a client's position, a rebuild those of its rows, a sweep has a moment, and a row may be reserved
 pub data Call : Type 0 where
   Told : Client → Held → Call
   Swept : (now : ℕ) → Call
+  Rebuilt : List Written → Call
+  Reserved : Client → Call
 
 -- a store as these calls have left it, the newest first
 abbrev pub IsAfter : List Call → Positions → Type 0
 IsAfter [] positions = (client : Client) → (row_of positions client).held ≡ None
 IsAfter (Told client held ∷ calls) positions = (before : Positions) × IsAfter calls before × Changes client (with_told held) before positions
 IsAfter (Swept now ∷ calls) positions = (before : Positions) × IsAfter calls before × Sweeps now before positions
+IsAfter (Rebuilt rows ∷ calls) positions = (before : Positions) × IsAfter calls before × TellsAll rows before positions
+IsAfter (Reserved client ∷ calls) positions = (before : Positions) × IsAfter calls before × Changes client with_reserved before positions
+
+abbrev pub IsWritten : Client → Held → List Written → Type 0
+IsWritten client held [] = ⊥
+IsWritten client held (written ∷ rows) = ((written.client ≡ client) × (held_by written ≡ held)) ⊎ IsWritten client held rows
 
 abbrev pub IsTold : Client → Held → List Call → Type 0
 IsTold client held [] = ⊥
 IsTold client held (Told other told ∷ calls) = ((other ≡ client) × (told ≡ held)) ⊎ IsTold client held calls
 IsTold client held (Swept now ∷ calls) = IsTold client held calls
+IsTold client held (Rebuilt rows ∷ calls) = IsWritten client held rows ⊎ IsTold client held calls
+IsTold client held (Reserved other ∷ calls) = IsTold client held calls
 
 -- an index has one position, and a greater index never has an earlier expiry
 abbrev pub IsConsistent : Client → List Call → Type 0
@@ -31,6 +42,8 @@ abbrev pub AreSweptBy : (now : ℕ) → List Call → Type 0
 AreSweptBy now [] = Unit {0}
 AreSweptBy now (Told client held ∷ calls) = AreSweptBy now calls
 AreSweptBy now (Swept at ∷ calls) = (at ≤ now) × AreSweptBy now calls
+AreSweptBy now (Rebuilt rows ∷ calls) = AreSweptBy now calls
+AreSweptBy now (Reserved client ∷ calls) = AreSweptBy now calls
 
 pub record IsGreatest (client : Client) (held : Held) (calls : List Call) : Type 0 where
   pub told : IsTold client held calls

@@ -1,4 +1,4 @@
-// The row of one client, and the table of all.
+//! The row of one client, and the table of all. Contracts see a store as such rows.
 ghost use Rattle.std.specs.Prelude.{◌≡◌, ◌≤◌, IsOk, IsSome, OnOk, OnErr, bytes_eq, option_and_then};
 ghost use Rattle.std.specs.Map.{lookup};
 ghost use Rattle.chronology_store.specs.Held.{nothing, is_newer, later, with_told, unless_past, swept};
@@ -9,7 +9,7 @@ use farm_base::{Memory, Moment};
 use std::collections::BTreeMap;
 use wiki_titles::ClientId;
 
-// A position that a client has told, and until when it counts.
+/// A position that a client has told, and until when it counts.
 #[derive(Clone, Copy, Debug, PartialEq, Eq)]
 pub struct Held {
     pub index: u64,
@@ -17,7 +17,7 @@ pub struct Held {
     pub expires: Moment,
 }
 
-// What is kept of a client. A reserved row stays, so that a commit finds its place.
+/// What is kept of a client. A reserved row stays, so that a commit finds its place.
 #[derive(Clone, Copy, Debug, PartialEq, Eq)]
 pub struct Row {
     pub reserved: bool,

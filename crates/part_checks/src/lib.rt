@@ -6,4 +6,6 @@ mod base;
 #[cfg(test)]
 mod feed;
 #[cfg(test)]
+mod keeper;
+#[cfg(test)]
 mod readers;
