@@ -7,3 +7,5 @@ mod choices;
 mod cookies;
 #[cfg(test)]
 mod positions;
+#[cfg(test)]
+mod replicas;

@@ -8,7 +8,7 @@ use Rattle.replica_apply.specs.declared.snapshot.Snapshot.{Snapshot}
 use Rattle.replica_apply.specs.Kept.{Kept, page_in, IsFront}
 use Rattle.replica_apply.specs.Reached.{AreTemplatesOf}
 
--- A snapshot of the title, taken at this reading of the clock. A front is never behind a moment before its stamp.
+-- A snapshot of the title, taken at this reading of the clock; a clock that reads less than the stamp finds no lag.
 pub record IsSnapshot (kept : Kept) (title : Title) (reading : ℕ) (s : Snapshot) : Type 0 where
   pub upto : s.upto ≡ kept.applied
   pub stamp : s.stamp ≡ kept.stamp
