@@ -1,10 +1,13 @@
-// The real source and sink, over any reader and writer. They tell no content.
-ghost use Rattle.std.specs.Prelude.{None};
+// The real source and sink, over any reader and writer.
+ghost use Rattle.std.specs.Prelude.{◌<◌, ◌≤◌, length, None, IfOk};
+ghost use Rattle.std.specs.Io.KnownBytes.{WriteAppends};
+ghost use Rattle.farm_base.specs.Causes.{HasCause};
+ghost use Rattle.farm_base.specs.Told.{WriteAdds};
 
 use farm_base::{OutFault, Sink, Source};
 use std::io::{Read, Write};
 
-/// A source over a reader: each error that the reader gives is a counted fault.
+/// A source over a reader, with the bytes that the reader tells: each error that it gives is a counted fault.
 #[derive(Drop)]
 pub struct Reading<R: Drop> {
     inner: R,
@@ -18,7 +21,7 @@ impl<R: Read + Drop> Reading<R> {
 }
 
 impl<R: Read + Drop> Source for Reading<R> {
-    ghost left = { λ _. None };
+    ghost left = { λ s. R.remaining s.inner };
 
     ghost faults = { λ s. s.faults };
 
@@ -33,7 +36,8 @@ impl<R: Read + Drop> Source for Reading<R> {
     }
 }
 
-/// A sink over a writer: each error of the writer, and each write that takes nothing, is a counted fault.
+/// A sink over a writer: each error of the writer, and each write that takes nothing, is a counted fault. It tells
+/// nothing, since a writer may begin to tell what it holds; but what the writer tells grows by what is taken.
 #[derive(Drop)]
 pub struct Writing<W: Drop> {
     inner: W,
@@ -51,7 +55,13 @@ impl<W: Write + Drop> Sink for Writing<W> {
 
     ghost faults = { λ s. s.faults };
 
-    fn write(&mut self, piece: &[u8]) -> Result<usize, OutFault> {
+    fn write(&mut self, piece: &[u8]) -> Result<usize, OutFault>
+        ensures some { IfOk result (λ n. 0 < n) }
+        ensures bound { IfOk result (λ n. n ≤ length piece.now) }
+        ensures bytes { WriteAdds None None result piece.now }
+        ensures cause { HasCause self.old.faults self.new.faults result }
+        ensures passed_on { WriteAppends (W.contents self.old.inner) (W.contents self.new.inner) result piece.now }
+    {
         match self.inner.write(piece) {
             Ok(count) if 0 < count => Ok(count),
             _ => {
