@@ -104,7 +104,7 @@ spaced_whole_by c s false e ih h =
     let d : distance (codes "\n") (c ∷ s) ≡ suc (distance (codes "\n") s) = distance_on (codes "\n") (c ∷ s) (omega arith) (begins_one 10 c s false e) in
     rw (turned 10 c false e) (ap (λ t. c ∷ t) (ih (omega (arith, h, d))))
 
-spaced_whole : (s : Bytes) → length s ≤ distance (codes "\n") s → spaced s ≡ s
+pub spaced_whole : (s : Bytes) → length s ≤ distance (codes "\n") s → spaced s ≡ s
 spaced_whole [] h = refl
 spaced_whole (c ∷ s) h = spaced_whole_by c s (nat_eq 10 c) refl (spaced_whole s) h
 
@@ -147,3 +147,7 @@ inner_line s old new at end e l w =
     ap (λ u. u ++ spaced (drop (end + 1) s)) w
     ∙ (let j : (x y z : Bytes) → ((x ++ y) ++ (space ∷ [])) ++ z ≡ x ++ (y ++ (space ∷ z)) = λ x y z. simp append_assoc in j old (take (end - at) t) (spaced (drop (end + 1) s)))
     ∙ ap (λ u. old ++ u) (ap (λ k. take k t ++ (space ∷ spaced (drop (end + 1) s))) same ∙ ap (λ u. take n t ++ (space ∷ spaced u)) (sym rest) ∙ sym (spaced_cut t d))
+
+-- a text with no line feed
+pub spaced_same : (s : Bytes) (n : ℕ) → n ≡ next_place (codes "\n") 0 s → length s ≤ n → s ≡ replaced line_feed space s
+spaced_same s n e h = sym (spaced_whole s (omega (arith, e, h)))

@@ -1,7 +1,11 @@
+pub mod Closes
 pub mod Cuts
 pub mod Firsts
 pub mod LineKinds
 pub mod Named
 pub mod Places
+pub mod PlainTitles
 pub mod Refused
+pub mod Singles
+pub mod Taken
 pub mod Trees

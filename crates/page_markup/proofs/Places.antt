@@ -96,11 +96,11 @@ cut_some mark [] h = let no : ⊥ = omega (arith, h) in absurd no
 cut_some mark (c ∷ s) h = cut_some_by mark c s (begins mark (c ∷ s)) refl (cut_some mark s) h
 
 -- between two equal marks
-enclosed_some : (mark s : Bytes) (c : ℕ) (t : Bytes) → begins mark s ≡ true → drop (length mark) s ≡ c ∷ t → distance mark t < length t
+pub enclosed_some : (mark s : Bytes) (c : ℕ) (t : Bytes) → begins mark s ≡ true → drop (length mark) s ≡ c ∷ t → distance mark t < length t
     → enclosed mark s ≡ Some (c ∷ take (distance mark t) t, drop (length mark) (drop (distance mark t) t))
 enclosed_some mark s c t e f h = rw (e, f, cut_some mark t h) refl
 
-enclosed_none : (mark s : Bytes) (c : ℕ) (t : Bytes) → begins mark s ≡ true → drop (length mark) s ≡ c ∷ t → length t ≤ distance mark t → enclosed mark s ≡ None
+pub enclosed_none : (mark s : Bytes) (c : ℕ) (t : Bytes) → begins mark s ≡ true → drop (length mark) s ≡ c ∷ t → length t ≤ distance mark t → enclosed mark s ≡ None
 enclosed_none mark s c t e f h = rw (e, f, cut_none mark t h) refl
 
 pub quotes_found : (rule : ℕ) (mark : Bytes) (at : ℕ) (text : Bytes) → begins mark (drop at text) ≡ true → at + length mark < length text
@@ -157,14 +157,14 @@ bracketed_some opening closing s t n e f d h few =
     let l : length (take n t) ≡ n = length_taken n t (omega (arith, h)) in
     rw (e, f, cut_some closing t h2, d, l, short n few) refl
 
-bracketed_long : (opening closing s t : Bytes) (n : ℕ) → begins opening s ≡ true → drop (length opening) s ≡ t → distance closing t ≡ n → n < length t → 512 < n
+pub bracketed_long : (opening closing s t : Bytes) (n : ℕ) → begins opening s ≡ true → drop (length opening) s ≡ t → distance closing t ≡ n → n < length t → 512 < n
     → bracketed opening closing s ≡ None
 bracketed_long opening closing s t n e f d h many =
     let h2 : distance closing t < length t = omega (arith, d, h) in
     let l : length (take n t) ≡ n = length_taken n t (omega (arith, h)) in
     rw (e, f, cut_some closing t h2, d, l, long n many) refl
 
-bracketed_none : (opening closing s t : Bytes) → begins opening s ≡ true → drop (length opening) s ≡ t → length t ≤ distance closing t
+pub bracketed_none : (opening closing s t : Bytes) → begins opening s ≡ true → drop (length opening) s ≡ t → length t ≤ distance closing t
     → bracketed opening closing s ≡ None
 bracketed_none opening closing s t e f h = rw (e, f, cut_none closing t h) refl
 
@@ -172,7 +172,7 @@ bracketed_none opening closing s t e f h = rw (e, f, cut_none closing t h) refl
 abbrev pub inner_at : (closing : Bytes) (inner : ℕ) (text : Bytes) → Bytes
 inner_at closing inner text = take (next_place closing inner text - inner) (drop inner text)
 
-brackets_at : (opening closing : Bytes) (at : ℕ) (text : Bytes) → begins opening (drop at text) ≡ true → length opening ≡ 2
+pub brackets_at : (opening closing : Bytes) (at : ℕ) (text : Bytes) → begins opening (drop at text) ≡ true → length opening ≡ 2
     → next_place closing (at + 2) text < length text → next_place closing (at + 2) text - (at + 2) ≤ 512
     → bracketed opening closing (drop at text) ≡ Some (inner_at closing (at + 2) text, drop (length closing) (drop (next_place closing (at + 2) text - (at + 2)) (drop (at + 2) text)))
 brackets_at opening closing at text e two found few =
@@ -274,3 +274,13 @@ known_next text at known five three two brackets braces = record {
 
 pub known_on : (text : Bytes) (at : ℕ) (known : Known) → IsKnown text at known → IsKnown text (at + 1) known
 known_on text at known k = known_next text at known k.five k.three k.two k.brackets k.braces
+
+-- what is known at a place is known at later ones
+later_by : (text : Bytes) (at n : ℕ) (known : Known) → IsKnown text at known → IsKnown text (at + n) known
+later_by text at zero known k = let P : ℕ → Type 0 = λ m. IsKnown text m known in subst P (let z : at ≡ at + 0 = omega arith in z) k
+later_by text at (suc n) known k =
+    let P : ℕ → Type 0 = λ m. IsKnown text m known in subst P (let z : at + n + 1 ≡ at + suc n = omega arith in z) (known_on text (at + n) known (later_by text at n known k))
+
+pub known_later : (text : Bytes) (at later : ℕ) (known : Known) → IsKnown text at known → at ≤ later → IsKnown text later known
+known_later text at later known k h =
+    let P : ℕ → Type 0 = λ m. IsKnown text m known in subst P (let z : at + (later - at) ≡ later = omega (arith, h) in z) (later_by text at (later - at) known k)

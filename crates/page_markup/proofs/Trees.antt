@@ -62,7 +62,7 @@ line_more_by F s same (inl e) =
     ∙ ap (λ t. F (with_front (line_of t) (Gap ∷ []))) (sym whole) ∙ ap (λ t. F (with_front (line_of (take d s)) (lines_from t))) (sym none)
 line_more_by F s same (inr l) = ap (λ ps. F (blocks_of (map line_of ps))) (first_piece s l)
 
-line_more : {X : Type 0} (F : List html.Block → X) (text : Bytes) (at end : ℕ) → ((l : Line) → F (with_front l []) ≡ F (with_front l (Gap ∷ [])))
+pub line_more : {X : Type 0} (F : List html.Block → X) (text : Bytes) (at end : ℕ) → ((l : Line) → F (with_front l []) ≡ F (with_front l (Gap ∷ [])))
     → end ≡ next_place feed at text
     → F (lines_from (drop at text)) ≡ F (with_front (line_of (take (end - at) (drop at text))) (lines_from (drop (end + 1) text)))
 line_more F text at end same e =
@@ -125,7 +125,7 @@ items_end ps (HeadingLine n m) bs h = refl
 items_end ps (ItemLine t) bs h = absurd h
 items_end ps (PlainLine t) bs h = items_end_plain ps t bs
 
-paragraph_begins : (t : Bytes) (bs : List html.Block) → tree_blocks (with_line t bs) ≡ paragraph_then t bs
+pub paragraph_begins : (t : Bytes) (bs : List html.Block) → tree_blocks (with_line t bs) ≡ paragraph_then t bs
 paragraph_begins t [] = refl
 paragraph_begins t (Gap ∷ bs) = refl
 paragraph_begins t (html.Heading n m ∷ bs) = refl
@@ -162,7 +162,7 @@ paragraph_end p (PlainLine t) bs h = absurd h
 abbrev pub line_between : (text : Bytes) (at end : ℕ) → Bytes
 line_between text at end = take (end - at) (drop at text)
 
-tree_line : (text : Bytes) (at end : ℕ) (l : Line) → end ≡ next_place feed at text → line_of (line_between text at end) ≡ l
+pub tree_line : (text : Bytes) (at end : ℕ) (l : Line) → end ≡ next_place feed at text → line_of (line_between text at end) ≡ l
     → tree_from (drop at text) ≡ tree_blocks (with_front l (lines_from (drop (end + 1) text)))
 tree_line text at end l e k = line_more tree_blocks text at end tree_same e ∙ ap (λ x. tree_blocks (with_front x (lines_from (drop (end + 1) text)))) k
 
@@ -218,7 +218,7 @@ items_last ps text end h =
     ap (λ t. items_then ps (lines_from t)) none ∙ sym (ap (λ t. list_block ps ∷ tree_from t) none)
 
 -- a line more of a paragraph
-take_on : (s : Bytes) (a b : ℕ) → a < length s → take (a + suc b) s ≡ take a s ++ (get_or s a 0 ∷ take b (drop (suc a) s))
+pub take_on : (s : Bytes) (a b : ℕ) → a < length s → take (a + suc b) s ≡ take a s ++ (get_or s a 0 ∷ take b (drop (suc a) s))
 take_on [] a b h = let no : ⊥ = omega (arith, h) in absurd no
 take_on (c ∷ s) zero b h = ap (λ k. take k (c ∷ s)) (let z : 0 + suc b ≡ suc b = omega arith in z)
 take_on (c ∷ s) (suc a) b h =

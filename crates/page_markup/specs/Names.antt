@@ -1,10 +1,10 @@
 -- The templates that a text names, one for each place where its braces name one.
-use Rattle.std.specs.Prelude.{ℕ, suc, List, [], ◌∷◌, ◌++◌, Option, Some, None, option_and_then, codes, ◌↔◌}
-use Rattle.std.specs.List.{Contains}
+use Rattle.std.specs.Prelude.{ℕ, suc, Bool, List, [], ◌∷◌, ◌++◌, length, Option, Some, None, option_and_then, codes, ◌↔◌, ◌&&◌, ◌||◌, nat_lt, nat_le}
+use Rattle.std.specs.List.{Contains, list_all}
 use Rattle.std.specs.List.Sorted.{IsStrictlySortedBy}
 use Rattle.wiki_titles.specs.Order.{bytes_cmp}
 use Rattle.wiki_model.specs.Bytes.{Bytes}
-use Rattle.wiki_model.specs.Titles.{Title}
+use Rattle.wiki_model.specs.Titles.{Title, is_letter, is_digit}
 use Rattle.wiki_model.specs.Html.{bracketed, template_named}
 use Rattle.page_markup.specs.declared.inline.Mark.{Mark}
 use Rattle.page_markup.specs.Marks.{bracket_marks}
@@ -37,3 +37,10 @@ template_marks_from at (c ∷ rest) = template_marks at (c ∷ rest) ++ template
 abbrev pub titles_of : List Mark → List Title
 titles_of [] = []
 titles_of (mark ∷ marks) = listed mark.title ++ titles_of marks
+
+-- a name of letters and digits alone, which is short enough for the title of a template
+abbrev pub is_word : ℕ → Bool
+is_word c = is_letter c || is_digit c
+
+abbrev pub is_plain : Bytes → Bool
+is_plain name = nat_lt 0 (length name) && nat_le (length name) 246 && list_all is_word name

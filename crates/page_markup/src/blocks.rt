@@ -88,7 +88,7 @@ fn read_items(
 
 /// Where the last line ends of the paragraph whose first line is this one.
 #[tactic(auto, using(crate::proofs::Trees::line_joined, crate::proofs::Trees::paragraph_last, crate::proofs::Trees::paragraph_to_blank, crate::proofs::Trees::paragraph_to_heading, crate::proofs::Trees::paragraph_to_item))]
-fn paragraph_end(text: &str, from: usize, end: usize) -> usize
+pub fn paragraph_end(text: &str, from: usize, end: usize) -> usize
     requires order { from ≤ end }
     requires within { end ≤ length text.now }
     requires feed { end < length text.now → get_or text.now end 0 ≡ line_feed }

@@ -28,7 +28,7 @@ impl Names {
         }
     }
 
-    fn opening(self) -> &'static [u8]
+    pub fn opening(self) -> &'static [u8]
         ensures { result.now ≡ opening_of self }
     {
         match self {
@@ -37,7 +37,7 @@ impl Names {
         }
     }
 
-    fn closing(self) -> &'static [u8]
+    pub fn closing(self) -> &'static [u8]
         ensures { result.now ≡ closing_of self }
     {
         match self {
@@ -69,12 +69,13 @@ fn first_bad(inner: &[u8]) -> Option<usize>
 fn before_bar(inner: &str) -> &str
     ensures { result.now ≡ (target_and_label inner.now).0 }
 {
-    let bar = finder::find_from(inner, b"|", 0);
+    let bar = finder::find_byte(inner, b'|', 0);
     part(inner, 0, bar)
 }
 
+/// The title that a link leads to whose brackets enclose this text, if it leads to one.
 #[tactic(auto, using(crate::proofs::Refused::link_refused))]
-fn read_target(alloc: Global, inner: &str) -> Result<Option<Title>, AllocError>
+pub fn link_title(alloc: Global, inner: &str) -> Result<Option<Title>, AllocError>
     ensures { IfOk result (λ title. title ≡ link_target inner.now) }
 {
     if let Some(bad) = first_bad(inner.as_bytes()) {
@@ -91,8 +92,9 @@ fn is_template(title: &Title) -> bool
     title.text().as_bytes().starts_with(b"Template:")
 }
 
+/// The title of the template that a text of at most 512 bytes names, if it names one.
 #[tactic(auto, using(crate::proofs::Refused::template_refused))]
-pub fn read_template(alloc: Global, inner: &str) -> Result<Option<Title>, AllocError>
+pub fn template_title(alloc: Global, inner: &str) -> Result<Option<Title>, AllocError>
     requires { length inner.now ≤ 512 }
     ensures { IfOk result (λ title. title ≡ template_named inner.now) }
 {
@@ -119,8 +121,8 @@ fn read_name(alloc: Global, names: Names, inner: &str) -> Result<Option<Title>, 
     ensures { IfOk result (λ title. title ≡ named_by names inner.now) }
 {
     match names {
-        Names::Links => read_target(alloc, inner),
-        Names::Templates => read_template(alloc, inner),
+        Names::Links => link_title(alloc, inner),
+        Names::Templates => template_title(alloc, inner),
     }
 }
 

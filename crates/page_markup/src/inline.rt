@@ -75,6 +75,24 @@ pub struct Known {
     pub braces: usize,
 }
 
+impl Known {
+    ghost use Rattle.std.specs.Prelude.{ℕ, List};
+    ghost use Rattle.page_markup.specs.Marks.{IsKnown};
+
+    /// Nothing is known at a text's first place.
+    pub fn nothing() -> Known
+        ensures { (text : List ℕ) → IsKnown text 0 result }
+    {
+        Known {
+            five: 0,
+            three: 0,
+            two: 0,
+            brackets: 0,
+            braces: 0,
+        }
+    }
+}
+
 /// Adds the marks of quotes that can be used at the place.
 #[tactic(auto, using(crate::proofs::Places::known_on))]
 fn read_all_quotes(
@@ -149,13 +167,7 @@ fn read_marks(alloc: Global, text: &str) -> Result<Vec<Mark>, AllocError>
     ensures { IfOk result (λ marks. marks.items ≡ marks_from 0 text.now) }
 {
     let mut marks = Vec::new(alloc);
-    let mut known = Known {
-        five: 0,
-        three: 0,
-        two: 0,
-        brackets: 0,
-        braces: 0,
-    };
+    let mut known = Known::nothing();
     for at in 0..text.len() {
         known = read_place(alloc, &mut marks, text, at, known)?;
     }

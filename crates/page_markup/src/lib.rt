@@ -2,6 +2,9 @@
 //!
 //! [`parse`] cuts a text into headings, lists and paragraphs. Each text inside them comes with every mark that could be used in it;
 //! which one is used, and which template is there, is for the reader of the tree to say. Each byte is looked at a fixed number of times.
+//!
+//! A reader that wants no tree goes over the text itself: by lines with [`line_at`] and [`paragraph_end`], and by marks with
+//! [`quotes_within`] and [`brackets_within`].
 #![tactic(auto)]
 
 mod blocks;
@@ -10,7 +13,9 @@ mod finder;
 mod inline;
 mod lines;
 mod names;
+mod plain_names;
 mod spaces;
+mod within;
 
 ghost use Rattle.std.specs.Prelude.{◌≡◌, ◌≤◌, length, IfOk};
 ghost use Rattle.std.specs.String.{string_bytes};
@@ -18,11 +23,17 @@ ghost use Rattle.wiki_model.specs.Bytes.{replaced, line_feed, space};
 ghost use Rattle.page_markup.specs.Names.{AreNames, names_from};
 ghost use Rattle.page_markup.specs.Tree.{inline_of, tree_of};
 
-pub use blocks::{Block, BlockKind, Tree};
+pub use blocks::{Block, BlockKind, Tree, paragraph_end};
+pub use brackets::{Names, link_title, template_title};
 use farm_base::Memory;
-pub use inline::{Inline, Mark};
+pub use finder::find_in;
+pub use inline::{Inline, Known, Mark};
+pub use lines::{Line, line_at};
+pub use plain_names::plain_template;
+pub use spaces::{OneLine, in_one_line, line_text, part};
 use std::alloc::Global;
 use wiki_titles::{Text, Title};
+pub use within::{Closing, brackets_within, quotes_within};
 
 /// The tree of the text.
 pub fn parse(alloc: Global, text: &Text) -> Result<Tree, Memory>

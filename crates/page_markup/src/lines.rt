@@ -159,6 +159,6 @@ pub fn line_at(text: &str, at: usize) -> (Line<'_>, usize)
     ensures line { IsLine (take (result.1 - at) (drop at text.now)) result.0 }
     ensures short { IsShort (length text.now) result.0 }
 {
-    let end = finder::find_from(text, b"\n", at);
+    let end = finder::find_byte(text, b'\n', at);
     (line_of(part(text, at, end)), end)
 }

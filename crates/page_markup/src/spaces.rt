@@ -3,6 +3,7 @@ ghost use Rattle.std.specs.Prelude.{◌≡◌, ◌≤◌, ◌<◌, ◌-◌, ◌+
 ghost use Rattle.std.specs.String.{string_bytes};
 ghost use Rattle.std.specs.Str.{IsCharBoundary};
 ghost use Rattle.wiki_model.specs.Bytes.{replaced, line_feed, space};
+ghost use Rattle.page_markup.specs.Spaced.{line_text};
 
 use crate::finder;
 use std::alloc::{AllocError, Global};
@@ -25,7 +26,7 @@ fn push_line(made: &mut String, text: &str, at: usize) -> Result<usize, AllocErr
     ensures cut { IfOk result (λ next. next < length text.now → IsCharBoundary text.now next) }
     ensures spaced { IfOk result (λ next. string_bytes made.new ++ replaced line_feed space (drop next text.now) ≡ string_bytes made.old ++ replaced line_feed space (drop at text.now)) }
 {
-    let end = finder::find_from(text, b"\n", at);
+    let end = finder::find_byte(text, b'\n', at);
     made.push_str(part(text, at, end))?;
     if end >= text.len() {
         return Ok(end + 1);
@@ -44,4 +45,33 @@ pub fn with_spaces(alloc: Global, text: &str) -> Result<String, AllocError>
         at = push_line(&mut made, text, at)?;
     }
     Ok(made)
+}
+
+/// A text in one line: the text itself, where it has no line feed, and else a copy of it.
+#[derive(Debug, Drop)]
+pub enum OneLine<'a> {
+    Same(&'a str),
+    Spaced(String),
+}
+
+/// The bytes of the line.
+pub fn line_text<'a>(line: &'a OneLine<'a>) -> &'a str
+    ensures { result.now ≡ line_text line.now }
+{
+    match line {
+        OneLine::Same(text) => text,
+        OneLine::Spaced(text) => text.as_str(),
+    }
+}
+
+/// The text with each line feed as a space. Memory is wanted only where there is one.
+#[tactic(auto, using(crate::proofs::Cuts::spaced_same))]
+pub fn in_one_line(alloc: Global, text: &str) -> Result<OneLine<'_>, AllocError>
+    ensures { IfOk result (λ line. line_text line ≡ replaced line_feed space text.now) }
+{
+    if finder::find_byte(text, b'\n', 0) < text.len() {
+        Ok(OneLine::Spaced(with_spaces(alloc, text)?))
+    } else {
+        Ok(OneLine::Same(text))
+    }
 }

@@ -1,17 +1,36 @@
--- Blocks and the page around them.
-use Rattle.std.proofs.Common.{suc, [], ◌∷◌, ◌++◌, List, length, drop, map, ◌≡◌, ℕ, ◌≤◌, ◌<◌, ◌+◌, Bool, true, false, refl, arith, ap, sym, ◌∙◌, append_assoc, append-nil, get_or, subst}
-use Rattle.std.specs.Prelude.{codes, if◌then◌else◌}
-use Rattle.std.proofs.Math.Seq.{drop-cons}
-use Rattle.wiki_model.specs.Bytes.{Bytes, pieces, line_feed}
-use Rattle.wiki_model.specs.Html.{Reader, Reading, Line, Blank, HeadingLine, ItemLine, PlainLine, Gap, Items, element, each_between, between, block, blocks, blocks_of, with_front, with_item, with_line, line_of, is_heading, heading_level, middle_of, heading_tag, line_end}
+-- Blocks and the page around them, a line at a time.
+use Rattle.std.proofs.Common.{suc, [], ◌∷◌, ◌++◌, List, length, take, drop, map, ◌≡◌, ℕ, ◌≤◌, ◌<◌, ◌+◌, ◌-◌, refl, arith, ap, sym, ◌∙◌, append_assoc, append-nil, subst}
+use Rattle.std.specs.Prelude.{codes, ⊤}
+use Rattle.std.proofs.lemmas.List.{drop_all}
+use Rattle.wiki_model.specs.Bytes.{Bytes}
+use Rattle.wiki_model.specs.Html.{Reader, Reading, Line, Blank, HeadingLine, ItemLine, PlainLine, Gap, Items, element, each_between, between, block, blocks, with_front, with_item, with_line, line_of, heading_tag, line_end}
 use Rattle.wiki_model.specs.Html as html
 use Rattle.page_markup.specs.declared.inline.Inline.{Inline}
 use Rattle.page_markup.specs.declared.blocks.Block.{Block}
+use Rattle.page_markup.specs.declared.blocks.BlockKind.{BlockKind}
 use Rattle.page_markup.specs.declared.blocks.BlockKind.TheVariants.{Heading, List as ListOf, Paragraph}
+use Rattle.page_markup.specs.Marks.{next_place}
 use Rattle.page_markup.specs.Tree.{inline_of, tree_blocks, tree_from}
-use Rattle.page_render.specs.Parts.{IsRead, AreRead, AllRead, HasLevel, texts_of, of_kind, read_blocks}
+use Rattle.page_markup.specs.Runs.{lines_from, paragraph_then, paragraph_block}
+use Rattle.page_markup.proofs.Trees.{feed, line_between, line_more, tree_line, paragraph_begins}
+use Rattle.page_render.specs.Parts.{blocks_from, ended_list, list_then, list_from, list_of}
 
--- the tree is read as the blocks are
+-- a tree is read as its blocks are
+abbrev pub texts_of : List Inline → List Bytes
+texts_of parts = map (λ part. part.text) parts
+
+abbrev pub of_kind : Reader → BlockKind → List Inline → ℕ → Reading
+of_kind read (Heading level) parts n = each_between read (heading_tag (codes "<h") level) (heading_tag (codes "</h") level ++ line_end) (texts_of parts) n
+of_kind read ListOf parts n = between (codes "<ul>" ++ line_end) (codes "</ul>" ++ line_end) (each_between read (codes "<li>") (codes "</li>" ++ line_end) (texts_of parts) n)
+of_kind read Paragraph parts n = each_between read (codes "<p>") (codes "</p>" ++ line_end) (texts_of parts) n
+
+abbrev pub read_blocks : Reader → List Block → ℕ → Reading
+read_blocks read [] n = record { html = []; included = n }
+read_blocks read (block ∷ blocks) n =
+    let first = of_kind read block.kind block.parts n in
+    let others = read_blocks read blocks first.included in
+    record { html = first.html ++ others.html; included = others.included }
+
 texts_same : (texts : List Bytes) → texts_of (map inline_of texts) ≡ texts
 texts_same [] = refl
 texts_same (t ∷ texts) = ap (λ ts. t ∷ ts) (texts_same texts)
@@ -26,7 +45,7 @@ then_others read bs cs first other e h =
     ap (λ f. let r : Reading = record { html = f.html ++ (read_blocks read bs f.included).html; included = (read_blocks read bs f.included).included } in r) e
     ∙ ap (λ g. let r : Reading = record { html = other.html ++ g.html; included = g.included } in r) (h other.included)
 
-pub tree_read : (read : Reader) (cs : List html.Block) (n : ℕ) → read_blocks read (tree_blocks cs) n ≡ blocks read n cs
+tree_read : (read : Reader) (cs : List html.Block) (n : ℕ) → read_blocks read (tree_blocks cs) n ≡ blocks read n cs
 tree_read read [] n = refl
 tree_read read (Gap ∷ cs) n = tree_read read cs n
 tree_read read (html.Heading level text ∷ cs) n =
@@ -39,139 +58,156 @@ tree_read read (html.Paragraph text ∷ cs) n =
     then_others read (tree_blocks cs) cs (of_kind read Paragraph (inline_of text ∷ []) n) (block read n (html.Paragraph text))
     (one_between read (codes "<p>") (codes "</p>" ++ line_end) text n) (λ m. tree_read read cs m)
 
--- all parts of a tree have their marks
-all_parts : (texts : List Bytes) → AreRead (map inline_of texts)
-all_parts [] = tt
-all_parts (t ∷ texts) = (refl, all_parts texts)
+-- the text's end and a gap make no difference
+blocks_same : (read : Reader) (n : ℕ) (l : Line) → (blocks read n (with_front l [])).html ≡ (blocks read n (with_front l (Gap ∷ []))).html
+blocks_same read n Blank = refl
+blocks_same read n (HeadingLine level middle) = refl
+blocks_same read n (ItemLine t) = refl
+blocks_same read n (PlainLine t) = refl
 
--- no heading is deeper than six
-abbrev pub Shallow : List html.Block → Type 0
-Shallow [] = Unit {0}
-Shallow (html.Heading level text ∷ cs) = (level ≤ 9) × Shallow cs
-Shallow (Gap ∷ cs) = Shallow cs
-Shallow (Items texts ∷ cs) = Shallow cs
-Shallow (html.Paragraph text ∷ cs) = Shallow cs
+list_same : (read : Reader) (n : ℕ) (l : Line) → list_then read n (with_front l []) ≡ list_then read n (with_front l (Gap ∷ []))
+list_same read n Blank = refl
+list_same read n (HeadingLine level middle) = refl
+list_same read n (ItemLine t) = refl
+list_same read n (PlainLine t) = refl
 
-shallow_item : (t : Bytes) (cs : List html.Block) → Shallow cs → Shallow (with_item t cs)
-shallow_item t [] h = h
-shallow_item t (Gap ∷ cs) h = h
-shallow_item t (html.Heading n m ∷ cs) h = h
-shallow_item t (Items us ∷ cs) h = h
-shallow_item t (html.Paragraph q ∷ cs) h = h
+-- the first line of a text
+first_line : (read : Reader) (n : ℕ) (text : Bytes) (at end : ℕ) (l : Line) → end ≡ next_place feed at text → line_of (line_between text at end) ≡ l
+    → blocks_from read n (drop at text) ≡ (blocks read n (with_front l (lines_from (drop (end + 1) text)))).html
+first_line read n text at end l e k =
+    line_more (λ bs. (blocks read n bs).html) text at end (blocks_same read n) e ∙ ap (λ x. (blocks read n (with_front x (lines_from (drop (end + 1) text)))).html) k
 
-shallow_line : (t : Bytes) (cs : List html.Block) → Shallow cs → Shallow (with_line t cs)
-shallow_line t [] h = h
-shallow_line t (Gap ∷ cs) h = h
-shallow_line t (html.Heading n m ∷ cs) h = h
-shallow_line t (Items us ∷ cs) h = h
-shallow_line t (html.Paragraph q ∷ cs) h = h
+pub blank_goes : (read : Reader) (n : ℕ) (text old : Bytes) (at end : ℕ) → end ≡ next_place feed at text → line_of (line_between text at end) ≡ Blank
+    → old ++ blocks_from read n (drop (end + 1) text) ≡ old ++ blocks_from read n (drop at text)
+blank_goes read n text old at end e k = ap (λ x. old ++ x) (sym (first_line read n text at end Blank e k))
 
-abbrev pub LowLine : Line → Type 0
-LowLine Blank = Unit {0}
-LowLine (HeadingLine level middle) = level ≤ 9
-LowLine (ItemLine text) = Unit {0}
-LowLine (PlainLine text) = Unit {0}
+written : (old new a b c : Bytes) → new ≡ old ++ a → c ≡ a ++ b → new ++ b ≡ old ++ c
+written old new a b c e f = ap (λ x. x ++ b) e ∙ append_assoc old a b ∙ ap (λ x. old ++ x) (sym f)
 
-low_choice : (b : Bool) (l k : Line) → LowLine l → LowLine k → LowLine (if b then l else k)
-low_choice true l k h i = h
-low_choice false l k h i = i
+pub heading_goes : (read : Reader) (n m level : ℕ) (text old new middle : Bytes) (at end : ℕ) → end ≡ next_place feed at text → line_of (line_between text at end) ≡ HeadingLine level middle
+    → new ≡ old ++ element (heading_tag (codes "<h") level) (heading_tag (codes "</h") level ++ line_end) (read n middle).html → m ≡ (read n middle).included
+    → new ++ blocks_from read m (drop (end + 1) text) ≡ old ++ blocks_from read n (drop at text)
+heading_goes read n m level text old new middle at end e k w i =
+    let first = element (heading_tag (codes "<h") level) (heading_tag (codes "</h") level ++ line_end) (read n middle).html in
+    written old new first (blocks_from read m (drop (end + 1) text)) (blocks_from read n (drop at text)) w
+    (first_line read n text at end (HeadingLine level middle) e k ∙ ap (λ j. first ++ blocks_from read j (drop (end + 1) text)) (sym i))
 
-low_line : (line : Bytes) → LowLine (line_of line)
-low_line line =
-    low_choice _ Blank _ tt (low_choice (is_heading line) (HeadingLine (heading_level line) (middle_of (heading_level line) line)) _ (omega arith) (low_choice _ (ItemLine _) (PlainLine line) tt tt))
+-- lists
+abbrev pub one_item : Bytes → Bytes
+one_item html = element (codes "<li>") (codes "</li>" ++ line_end) html
 
-shallow_front : (l : Line) (cs : List html.Block) → LowLine l → Shallow cs → Shallow (with_front l cs)
-shallow_front Blank cs h s = s
-shallow_front (HeadingLine n m) cs h s = (h, s)
-shallow_front (ItemLine t) cs h s = shallow_item t cs s
-shallow_front (PlainLine t) cs h s = shallow_line t cs s
+first_alone : (a e b rest : Bytes) → ((a ++ (e ++ [])) ++ b) ++ rest ≡ a ++ (e ++ (b ++ rest))
+first_alone a e b rest = ap (λ x. ((a ++ x) ++ b) ++ rest) (append-nil e) ∙ (let j : ((a ++ e) ++ b) ++ rest ≡ a ++ (e ++ (b ++ rest)) = simp append_assoc in j)
 
-shallow : (lines : List Bytes) → Shallow (blocks_of (map line_of lines))
-shallow [] = tt
-shallow (line ∷ lines) = shallow_front (line_of line) (blocks_of (map line_of lines)) (low_line line) (shallow lines)
+first_of_more : (a e f b rest : Bytes) → ((a ++ (e ++ f)) ++ b) ++ rest ≡ a ++ (e ++ (f ++ (b ++ rest)))
+first_of_more a e f b rest = simp append_assoc
 
-all_blocks : (cs : List html.Block) → Shallow cs → AllRead (tree_blocks cs)
-all_blocks [] s = tt
-all_blocks (Gap ∷ cs) s = all_blocks cs s
-all_blocks (html.Heading n m ∷ cs) s = ((refl, tt), s.0, all_blocks cs s.1)
-all_blocks (Items texts ∷ cs) s = (all_parts texts, tt, all_blocks cs s)
-all_blocks (html.Paragraph t ∷ cs) s = ((refl, tt), tt, all_blocks cs s)
+list_begins : (read : Reader) (n : ℕ) (t : Bytes) (bs : List html.Block)
+    → (blocks read n (with_item t bs)).html ≡ (codes "<ul>" ++ line_end) ++ (one_item (read n t).html ++ list_then read (read n t).included bs)
+list_begins read n t [] = first_alone (codes "<ul>" ++ line_end) (one_item (read n t).html) (codes "</ul>" ++ line_end) []
+list_begins read n t (Gap ∷ bs) = first_alone (codes "<ul>" ++ line_end) (one_item (read n t).html) (codes "</ul>" ++ line_end) (blocks read (read n t).included (Gap ∷ bs)).html
+list_begins read n t (html.Heading level middle ∷ bs) =
+    first_alone (codes "<ul>" ++ line_end) (one_item (read n t).html) (codes "</ul>" ++ line_end) (blocks read (read n t).included (html.Heading level middle ∷ bs)).html
+list_begins read n t (html.Paragraph q ∷ bs) =
+    first_alone (codes "<ul>" ++ line_end) (one_item (read n t).html) (codes "</ul>" ++ line_end) (blocks read (read n t).included (html.Paragraph q ∷ bs)).html
+list_begins read n t (Items us ∷ bs) =
+    let others = each_between read (codes "<li>") (codes "</li>" ++ line_end) us (read n t).included in
+    first_of_more (codes "<ul>" ++ line_end) (one_item (read n t).html) others.html (codes "</ul>" ++ line_end) (blocks read others.included bs).html
 
-pub tree_all_read : (text : Bytes) → AllRead (tree_from text)
-tree_all_read text = all_blocks (blocks_of (map line_of (pieces line_feed text))) (shallow (pieces line_feed text))
+pub list_goes : (read : Reader) (n m : ℕ) (text old new t : Bytes) (at end next : ℕ) → end ≡ next_place feed at text → line_of (line_between text at end) ≡ ItemLine t
+    → new ++ blocks_from read m (drop next text) ≡ old ++ list_of read n t (drop (end + 1) text)
+    → new ++ blocks_from read m (drop next text) ≡ old ++ blocks_from read n (drop at text)
+list_goes read n m text old new t at end next e k w =
+    w ∙ ap (λ x. old ++ x) (sym (first_line read n text at end (ItemLine t) e k ∙ list_begins read n t (lines_from (drop (end + 1) text))))
 
--- a part more
-pub part_goes : (read : Reader) (opening closing old new : Bytes) (parts : List Inline) (d : Inline) (i n m : ℕ) → i < length parts
-    → m ≡ (read n (get_or parts i d).text).included
-    → new ≡ ((old ++ opening) ++ (read n (get_or parts i d).text).html) ++ closing
-    → (new ++ (each_between read opening closing (texts_of (drop (i + 1) parts)) m).html ≡ old ++ (each_between read opening closing (texts_of (drop i parts)) n).html)
-    × ((each_between read opening closing (texts_of (drop (i + 1) parts)) m).included ≡ (each_between read opening closing (texts_of (drop i parts)) n).included)
-part_goes read opening closing old new parts d i n m l e w =
-    let p = get_or parts i d in
-    let rest = drop (suc i) parts in
-    let c = (read n p.text).html in
-    let front : drop i parts ≡ p ∷ rest = drop-cons parts i d l in
-    let same : drop (i + 1) parts ≡ rest = ap (λ k. drop k parts) (let z : i + 1 ≡ suc i = omega arith in z) in
-    let left : each_between read opening closing (texts_of (drop (i + 1) parts)) m ≡ each_between read opening closing (texts_of rest) (read n p.text).included =
-    ap (λ ps. each_between read opening closing (texts_of ps) m) same ∙ ap (each_between read opening closing (texts_of rest)) e in
-    let whole : each_between read opening closing (texts_of (drop i parts)) n ≡ each_between read opening closing (texts_of (p ∷ rest)) n =
-    ap (λ ps. each_between read opening closing (texts_of ps) n) front in
-    let tail = (each_between read opening closing (texts_of rest) (read n p.text).included).html in
-    let j : (((old ++ opening) ++ c) ++ closing) ++ tail ≡ old ++ (element opening closing c ++ tail) = simp append_assoc in (
-      ap (λ x. x ++ (each_between read opening closing (texts_of (drop (i + 1) parts)) m).html) w ∙ ap (λ r. (((old ++ opening) ++ c) ++ closing) ++ r.html) left ∙ j ∙ ap (λ r. old ++ r.html) (sym whole),
-      ap (λ r. r.included) left ∙ ap (λ r. r.included) (sym whole),
-    )
+item_alone : (read : Reader) (n : ℕ) (t : Bytes) (bs : List html.Block)
+    → (one_item (read n t).html ++ []) ++ ((codes "</ul>" ++ line_end) ++ (blocks read (read n t).included bs).html)
+    ≡ one_item (read n t).html ++ ((codes "</ul>" ++ line_end) ++ (blocks read (read n t).included bs).html)
+item_alone read n t bs = ap (λ x. x ++ ((codes "</ul>" ++ line_end) ++ (blocks read (read n t).included bs).html)) (append-nil (one_item (read n t).html))
 
-pub part_read : (parts : List Inline) (d : Inline) (i : ℕ) → i < length parts → AreRead (drop i parts) → IsRead (get_or parts i d) × AreRead (drop (i + 1) parts)
-part_read parts d i l h =
-    let front : AreRead (get_or parts i d ∷ drop (suc i) parts) = subst AreRead (drop-cons parts i d l) h in
-    (front.0, subst (λ k. AreRead (drop k parts)) (let z : suc i ≡ i + 1 = omega arith in z) front.1)
+item_then : (read : Reader) (n : ℕ) (t : Bytes) (bs : List html.Block) → list_then read n (with_item t bs) ≡ one_item (read n t).html ++ list_then read (read n t).included bs
+item_then read n t [] = item_alone read n t []
+item_then read n t (Gap ∷ bs) = item_alone read n t (Gap ∷ bs)
+item_then read n t (html.Heading level middle ∷ bs) = item_alone read n t (html.Heading level middle ∷ bs)
+item_then read n t (html.Paragraph q ∷ bs) = item_alone read n t (html.Paragraph q ∷ bs)
+item_then read n t (Items us ∷ bs) =
+    let others = each_between read (codes "<li>") (codes "</li>" ++ line_end) us (read n t).included in
+    append_assoc (one_item (read n t).html) others.html ((codes "</ul>" ++ line_end) ++ (blocks read others.included bs).html)
 
-pub part_html : (read : Reader) (opening closing old new : Bytes) (parts : List Inline) (d : Inline) (i n m : ℕ) → i < length parts
-    → m ≡ (read n (get_or parts i d).text).included
-    → new ≡ ((old ++ opening) ++ (read n (get_or parts i d).text).html) ++ closing
-    → new ++ (each_between read opening closing (texts_of (drop (i + 1) parts)) m).html ≡ old ++ (each_between read opening closing (texts_of (drop i parts)) n).html
-part_html read opening closing old new parts d i n m l e w = (part_goes read opening closing old new parts d i n m l e w).0
+pub item_more : (read : Reader) (n m : ℕ) (text old new t : Bytes) (end next : ℕ) → next ≡ next_place feed (end + 1) text → line_of (line_between text (end + 1) next) ≡ ItemLine t
+    → new ≡ old ++ element (codes "<li>") (codes "</li>" ++ line_end) (read n t).html → m ≡ (read n t).included
+    → new ++ list_from read m (drop (next + 1) text) ≡ old ++ list_from read n (drop (end + 1) text)
+item_more read n m text old new t end next e k w i =
+    let first = element (codes "<li>") (codes "</li>" ++ line_end) (read n t).html in
+    written old new first (list_from read m (drop (next + 1) text)) (list_from read n (drop (end + 1) text)) w
+    (line_more (list_then read n) text (end + 1) next (list_same read n) e ∙ ap (λ x. list_then read n (with_front x (lines_from (drop (next + 1) text)))) k
+    ∙ item_then read n t (lines_from (drop (next + 1) text)) ∙ ap (λ j. first ++ list_from read j (drop (next + 1) text)) (sym i))
 
-pub part_included : (read : Reader) (opening closing : Bytes) (parts : List Inline) (d : Inline) (i n m : ℕ) → i < length parts
-    → m ≡ (read n (get_or parts i d).text).included
-    → (each_between read opening closing (texts_of (drop (i + 1) parts)) m).included ≡ (each_between read opening closing (texts_of (drop i parts)) n).included
-part_included read opening closing parts d i n m l e = (part_goes read opening closing [] ((([] ++ opening) ++ (read n (get_or parts i d).text).html) ++ closing) parts d i n m l e refl).1
+line_ends : (read : Reader) (n : ℕ) (t : Bytes) (bs : List html.Block) → list_then read n (with_line t bs) ≡ (codes "</ul>" ++ line_end) ++ (blocks read n (with_line t bs)).html
+line_ends read n t [] = refl
+line_ends read n t (Gap ∷ bs) = refl
+line_ends read n t (html.Heading level middle ∷ bs) = refl
+line_ends read n t (Items us ∷ bs) = refl
+line_ends read n t (html.Paragraph q ∷ bs) = refl
 
-pub part_is_read : (parts : List Inline) (d : Inline) (i : ℕ) → i < length parts → AreRead (drop i parts) → IsRead (get_or parts i d)
-part_is_read parts d i l h = (part_read parts d i l h).0
+abbrev pub IsNoItem : Line → Type 0
+IsNoItem Blank = ⊤
+IsNoItem (HeadingLine level middle) = ⊤
+IsNoItem (ItemLine t) = ⊥
+IsNoItem (PlainLine t) = ⊤
 
-pub parts_left : (parts : List Inline) (d : Inline) (i : ℕ) → i < length parts → AreRead (drop i parts) → AreRead (drop (i + 1) parts)
-parts_left parts d i l h = (part_read parts d i l h).1
+list_ends : (read : Reader) (n : ℕ) (l : Line) (bs : List html.Block) → IsNoItem l → list_then read n (with_front l bs) ≡ (codes "</ul>" ++ line_end) ++ (blocks read n (with_front l bs)).html
+list_ends read n Blank bs h = refl
+list_ends read n (HeadingLine level middle) bs h = refl
+list_ends read n (ItemLine t) bs h = absurd h
+list_ends read n (PlainLine t) bs h = line_ends read n t bs
 
--- a block more
-pub block_goes : (read : Reader) (old new : Bytes) (bs : List Block) (d : Block) (i n m : ℕ) → i < length bs
-    → m ≡ (of_kind read (get_or bs i d).kind (get_or bs i d).parts n).included
-    → new ≡ old ++ (of_kind read (get_or bs i d).kind (get_or bs i d).parts n).html
-    → new ++ (read_blocks read (drop (i + 1) bs) m).html ≡ old ++ (read_blocks read (drop i bs) n).html
-block_goes read old new bs d i n m l e w =
-    let b = get_or bs i d in
-    let rest = drop (suc i) bs in
-    let first = of_kind read b.kind b.parts n in
-    let same : drop (i + 1) bs ≡ rest = ap (λ k. drop k bs) (let z : i + 1 ≡ suc i = omega arith in z) in
-    ap (λ x. x ++ (read_blocks read (drop (i + 1) bs) m).html) w
-    ∙ ap (λ ps. (old ++ first.html) ++ (read_blocks read ps m).html) same ∙ ap (λ k. (old ++ first.html) ++ (read_blocks read rest k).html) e
-    ∙ append_assoc old first.html (read_blocks read rest first.included).html
-    ∙ ap (λ ps. old ++ (read_blocks read ps n).html) (sym (drop-cons bs i d l))
+list_to : (read : Reader) (n : ℕ) (text : Bytes) (end next : ℕ) (l : Line) → next ≡ next_place feed (end + 1) text → line_of (line_between text (end + 1) next) ≡ l → IsNoItem l
+    → list_from read n (drop (end + 1) text) ≡ ended_list read n (drop (end + 1) text)
+list_to read n text end next l e k h =
+    line_more (list_then read n) text (end + 1) next (list_same read n) e ∙ ap (λ x. list_then read n (with_front x (lines_from (drop (next + 1) text)))) k
+    ∙ list_ends read n l (lines_from (drop (next + 1) text)) h
+    ∙ ap (λ x. (codes "</ul>" ++ line_end) ++ x) (sym (first_line read n text (end + 1) next l e k))
 
-pub block_read : (bs : List Block) (d : Block) (i : ℕ) → i < length bs → AllRead (drop i bs) → AreRead (get_or bs i d).parts × HasLevel (get_or bs i d).kind × AllRead (drop (i + 1) bs)
-block_read bs d i l h =
-    let front : AllRead (get_or bs i d ∷ drop (suc i) bs) = subst AllRead (drop-cons bs i d l) h in
-    (front.0, front.1, subst (λ k. AllRead (drop k bs)) (let z : suc i ≡ i + 1 = omega arith in z) front.2)
+pub list_to_blank : (read : Reader) (n : ℕ) (text : Bytes) (end next : ℕ) → next ≡ next_place feed (end + 1) text → line_of (line_between text (end + 1) next) ≡ Blank
+    → list_from read n (drop (end + 1) text) ≡ ended_list read n (drop (end + 1) text)
+list_to_blank read n text end next e k = list_to read n text end next Blank e k tt
 
-pub block_is_read : (bs : List Block) (d : Block) (i : ℕ) → i < length bs → AllRead (drop i bs) → AreRead (get_or bs i d).parts
-block_is_read bs d i l h = (block_read bs d i l h).0
+pub list_to_heading : (read : Reader) (n level : ℕ) (text middle : Bytes) (end next : ℕ) → next ≡ next_place feed (end + 1) text → line_of (line_between text (end + 1) next) ≡ HeadingLine level middle
+    → list_from read n (drop (end + 1) text) ≡ ended_list read n (drop (end + 1) text)
+list_to_heading read n level text middle end next e k = list_to read n text end next (HeadingLine level middle) e k tt
 
-pub block_level : (bs : List Block) (d : Block) (i : ℕ) → i < length bs → AllRead (drop i bs) → HasLevel (get_or bs i d).kind
-block_level bs d i l h = (block_read bs d i l h).1
+pub list_to_plain : (read : Reader) (n : ℕ) (text t : Bytes) (end next : ℕ) → next ≡ next_place feed (end + 1) text → line_of (line_between text (end + 1) next) ≡ PlainLine t
+    → list_from read n (drop (end + 1) text) ≡ ended_list read n (drop (end + 1) text)
+list_to_plain read n text t end next e k = list_to read n text end next (PlainLine t) e k tt
 
-pub blocks_left : (bs : List Block) (d : Block) (i : ℕ) → i < length bs → AllRead (drop i bs) → AllRead (drop (i + 1) bs)
-blocks_left bs d i l h = (block_read bs d i l h).2
+pub list_last : (read : Reader) (n : ℕ) (text : Bytes) (end : ℕ) → length text ≤ end → list_from read n (drop (end + 1) text) ≡ ended_list read n (drop (end + 1) text)
+list_last read n text end h =
+    let none : drop (end + 1) text ≡ [] = drop_all (end + 1) text (omega (arith, h)) in
+    ap (list_from read n) none ∙ sym (ap (ended_list read n) none)
+
+-- the list put together
+pub list_joined : (old out1 out2 out3 out4 a b c d e : Bytes) → out1 ≡ old ++ a → out2 ≡ out1 ++ b → out3 ++ (c ++ d) ≡ out2 ++ e → out4 ≡ out3 ++ c
+    → out4 ++ d ≡ old ++ (a ++ (b ++ e))
+list_joined old o1 o2 o3 o4 a b c d e h1 h2 h3 h4 =
+    ap (λ x. x ++ d) h4 ∙ append_assoc o3 c d ∙ h3 ∙ ap (λ x. x ++ e) (h2 ∙ ap (λ x. x ++ b) h1)
+    ∙ (let j : ((old ++ a) ++ b) ++ e ≡ old ++ (a ++ (b ++ e)) = simp append_assoc in j)
+
+-- paragraphs
+pub paragraph_goes : (read : Reader) (n m : ℕ) (text old new p : Bytes) (at end last : ℕ) → end ≡ next_place feed at text → line_of (line_between text at end) ≡ PlainLine (line_between text at end)
+    → paragraph_then (line_between text at end) (lines_from (drop (end + 1) text)) ≡ paragraph_block p ∷ tree_from (drop (last + 1) text)
+    → new ≡ old ++ element (codes "<p>") (codes "</p>" ++ line_end) (read n p).html → m ≡ (read n p).included
+    → new ++ blocks_from read m (drop (last + 1) text) ≡ old ++ blocks_from read n (drop at text)
+paragraph_goes read n m text old new p at end last e k run w i =
+    let first = element (codes "<p>") (codes "</p>" ++ line_end) (read n p).html in
+    let rest = drop (last + 1) text in
+    let tree : tree_from (drop at text) ≡ paragraph_block p ∷ tree_from rest =
+    tree_line text at end (PlainLine (line_between text at end)) e k ∙ paragraph_begins (line_between text at end) (lines_from (drop (end + 1) text)) ∙ run in
+    let whole : blocks_from read n (drop at text) ≡ first ++ blocks_from read (read n p).included rest =
+    ap (λ r. r.html) (sym (tree_read read (lines_from (drop at text)) n)) ∙ ap (λ bs. (read_blocks read bs n).html) tree
+    ∙ ap (λ x. x ++ (read_blocks read (tree_from rest) (read n p).included).html) (append-nil first)
+    ∙ ap (λ r. first ++ r.html) (tree_read read (lines_from rest) (read n p).included) in
+    written old new first (blocks_from read m rest) (blocks_from read n (drop at text)) w (whole ∙ ap (λ j. first ++ blocks_from read j rest) (sym i))
 
 -- the page put together
 pub page_joined : (out0 out1 out2 out3 out4 out5 a b c d e : Bytes) → out1 ≡ out0 ++ a → out2 ≡ out1 ++ b → out3 ≡ out2 ++ c → out4 ≡ out3 ++ d → out5 ≡ out4 ++ e

@@ -4,10 +4,10 @@ use Rattle.std.specs.Prelude.{codes, if◌then◌else◌}
 use Rattle.std.proofs.lemmas.List.{length-drop}
 use Rattle.std.proofs.Math.Seq.{take-length}
 use Rattle.std.proofs.Math.Nat.{eq-or-lt_of_le}
-use Rattle.wiki_model.specs.Bytes.{Bytes, is_empty, begins}
+use Rattle.wiki_model.specs.Bytes.{Bytes, is_empty}
 use Rattle.wiki_model.specs.Html.{target_and_label}
 use Rattle.page_markup.specs.Marks.{distance, next_place}
-use Rattle.page_markup.proofs.Places.{distance_within, distance_here, place_on, cut_none, cut_some}
+use Rattle.page_markup.proofs.Places.{distance_within, cut_none, cut_some}
 
 empty_of : (t : Bytes) → length t ≡ 0 → is_empty t ≡ true
 empty_of [] e = refl
@@ -44,12 +44,6 @@ label_long s n e h =
 
 pub link_joined : (a b c d : Bytes) (e f : Bytes) → (((a ++ b) ++ c) ++ d) ++ (e ++ f) ≡ ((a ++ (b ++ (c ++ d))) ++ e) ++ f
 link_joined a b c d e f = simp append_assoc
-
-pub bar_on : (at : ℕ) (text : Bytes) → at < length text → begins (codes "|") (drop at text) ≡ false → next_place (codes "|") at text ≡ next_place (codes "|") (at + 1) text
-bar_on at text h e = place_on (codes "|") at text h e
-
-pub bar_here : (s : Bytes) → begins (codes "|") s ≡ true → distance (codes "|") s ≡ 0
-bar_here s e = distance_here (codes "|") s e
 
 pub three_joined : (old new b u d : Bytes) → new ≡ ((old ++ b) ++ u) ++ d → new ≡ old ++ ((b ++ u) ++ d)
 three_joined old new b u d e = e ∙ (let j : ((old ++ b) ++ u) ++ d ≡ old ++ ((b ++ u) ++ d) = simp append_assoc in j)

@@ -1,8 +1,8 @@
-pub mod Cursors
 pub mod Frames
 pub mod Fuel
-pub mod Index
 pub mod Labels
+pub mod Lookups
 pub mod Picks
+pub mod Runs
 pub mod Steps
 pub mod Taken

@@ -1,317 +1,211 @@
--- The marks of a text, read in order, give the mark of the definition.
-use Rattle.std.proofs.Common.{suc, [], ◌∷◌, ◌++◌, List, length, take, drop, ◌≡◌, ℕ, ◌≤◌, ◌<◌, ◌+◌, ◌-◌, Bool, true, false, refl, arith, ap, sym, ◌∙◌, Some, None, nat_le, nat_eq, subst, inl, inr, ◌⊎◌, get_or, eq-eqb, append_assoc}
-use Rattle.std.specs.Prelude.{Option, codes, option_map, option_and_then, if◌then◌else◌, unwrap_or, ◌&&◌}
-use Rattle.std.proofs.lemmas.List.{length-drop}
+-- Which rule holds at a place.
+use Rattle.std.proofs.Common.{suc, [], ◌∷◌, length, take, drop, ◌≡◌, ℕ, ◌≤◌, ◌<◌, ◌+◌, ◌-◌, Bool, true, false, refl, arith, ap, sym, ◌∙◌, Some, None, nat_eq, nat_le, get_or}
+use Rattle.std.specs.Prelude.{Option, codes, option_map, option_and_then, if◌then◌else◌, unwrap_or}
 use Rattle.std.proofs.lemmas.Bool.Decides.{nat_tests}
 use Rattle.std.proofs.Math.Seq.{drop-cons}
-use Rattle.std.proofs.Math.Nat.{eq-or-lt_of_le}
-use Rattle.wiki_model.specs.Bytes.{Bytes, begins, cut_at}
+use Rattle.wiki_model.specs.Bytes.{Bytes}
 use Rattle.wiki_model.specs.Titles.{Title, Text}
-use Rattle.wiki_model.specs.Html.{BoldItalic, Bold, Italic, Templates, two, enclosed, cut_after_one, bracketed, if_short, link, target_and_label, ok_of, template_named, include, or_else, mark_at}
+use Rattle.wiki_model.specs.Html.{Templates, two, enclosed, bracketed, link, target_and_label, template_named, include, or_else, mark_at}
 use Rattle.wiki_model.specs.Html as html
-use Rattle.page_markup.specs.declared.inline.Mark.{Mark}
-use Rattle.page_markup.specs.Marks.{distance, marks_from, marks_here, quote_marks, quote_marks_of, bracket_marks, bracket_marks_of, named_marks_of, mark_with, link_target}
-use Rattle.page_markup.proofs.Places.{marks_on, drop_drop, distance_within, cut_none, cut_some, length_taken}
-use Rattle.page_render.specs.Use.{between, as_used, include_used, pick_at}
-use Rattle.page_render.proofs.Taken.{clip, clip_kept, clip_lost, yes_le, no_le, at_most_or_past, enclosed_front, bracketed_front}
+use Rattle.page_markup.specs.Marks.{link_target}
+use Rattle.page_markup.specs.Within.{between, cut_within}
+use Rattle.page_render.specs.Use.{IsUse, marked, mark_used, IsIncluded, first_quotes}
+use Rattle.page_render.specs.Templates.{text_named}
+use Rattle.page_render.specs.declared.choice.Use.{Use}
+use Rattle.page_render.specs.declared.choice.Use.TheVariants.{Letter, Quotes, Link, Include}
+use Rattle.page_render.specs.declared.choice.Emphasis.TheVariants.{BoldItalic, Bold, Italic}
 
-abbrev pub pick : (Mark → Option html.Mark) → List Mark → Option html.Mark
-pick f [] = None
-pick f (m ∷ marks) = or_else (f m) (pick f marks)
+-- quotes, one kind after another
+pub five_used : (at to close : ℕ) (text : Bytes) → cut_within 5 at to text (Some close) ≡ enclosed (codes "'''''") (between at to text)
+    → marked at to text (Quotes BoldItalic close) ≡ first_quotes (between at to text)
+five_used at to close text e =
+    ap (λ o. or_else (two html.BoldItalic o) (or_else (two html.Bold (enclosed (codes "'''") (between at to text))) (two html.Italic (enclosed (codes "''") (between at to text))))) e
 
-or_none : (o : Option html.Mark) → or_else o None ≡ o
-or_none None = refl
-or_none (Some m) = refl
+pub three_used : (at to close : ℕ) (text : Bytes) → cut_within 5 at to text None ≡ enclosed (codes "'''''") (between at to text)
+    → cut_within 3 at to text (Some close) ≡ enclosed (codes "'''") (between at to text) → marked at to text (Quotes Bold close) ≡ first_quotes (between at to text)
+three_used at to close text a e =
+    ap (λ o. or_else (two html.Bold o) (two html.Italic (enclosed (codes "''") (between at to text)))) e
+    ∙ ap (λ o. or_else (two html.BoldItalic o) (or_else (two html.Bold (enclosed (codes "'''") (between at to text))) (two html.Italic (enclosed (codes "''") (between at to text))))) a
 
-or_or : (a b c : Option html.Mark) → or_else (or_else a b) c ≡ or_else a (or_else b c)
-or_or None b c = refl
-or_or (Some m) b c = refl
+last_of_three : (at to : ℕ) (text : Bytes) (o : Option (Bytes × Bytes)) → cut_within 5 at to text None ≡ enclosed (codes "'''''") (between at to text)
+    → cut_within 3 at to text None ≡ enclosed (codes "'''") (between at to text) → o ≡ enclosed (codes "''") (between at to text)
+    → two html.Italic o ≡ first_quotes (between at to text)
+last_of_three at to text o a b e =
+    ap (two html.Italic) e
+    ∙ ap (λ p. or_else (two html.Bold p) (two html.Italic (enclosed (codes "''") (between at to text)))) b
+    ∙ ap (λ p. or_else (two html.BoldItalic p) (or_else (two html.Bold (enclosed (codes "'''") (between at to text))) (two html.Italic (enclosed (codes "''") (between at to text))))) a
 
-pick_append : (f : Mark → Option html.Mark) (xs ys : List Mark) → pick f (xs ++ ys) ≡ or_else (pick f xs) (pick f ys)
-pick_append f [] ys = refl
-pick_append f (m ∷ xs) ys = ap (or_else (f m)) (pick_append f xs ys) ∙ sym (or_or (f m) (pick f xs) (pick f ys))
+pub two_used : (at to close : ℕ) (text : Bytes) → cut_within 5 at to text None ≡ enclosed (codes "'''''") (between at to text)
+    → cut_within 3 at to text None ≡ enclosed (codes "'''") (between at to text) → cut_within 2 at to text (Some close) ≡ enclosed (codes "''") (between at to text)
+    → marked at to text (Quotes Italic close) ≡ first_quotes (between at to text)
+two_used at to close text a b e = last_of_three at to text (cut_within 2 at to text (Some close)) a b e
 
--- where the pieces of a cut stand
-abbrev pub Parts : (opening closing : ℕ) → Bytes → Option (Bytes × Bytes) → Type 0
-Parts opening closing s None = Unit {0}
-Parts opening closing s (Some p) = (p.0 ≡ take (length p.0) (drop opening s)) × (p.1 ≡ drop (opening + length p.0 + closing) s)
-
-cut_parts_by : (mark s : Bytes) → (distance mark s ≡ length s) ⊎ (distance mark s < length s) → Parts 0 (length mark) s (cut_at mark s)
-cut_parts_by mark s (inl e) = let P : Option (Bytes × Bytes) → Type 0 = Parts 0 (length mark) s in subst P (sym (cut_none mark s (omega (arith, e)))) tt
-cut_parts_by mark s (inr h) =
-    let d = distance mark s in
-    let l : length (take d s) ≡ d = length_taken d s (omega (arith, h)) in
-    let P : Option (Bytes × Bytes) → Type 0 = Parts 0 (length mark) s in
-    subst P (sym (cut_some mark s h))
-    (ap (λ n. take n s) (sym l), drop_drop (length mark) d s ∙ ap (λ n. drop n s) (let z : d + length mark ≡ 0 + length (take d s) + length mark = omega (arith, l) in z))
-
-cut_parts : (mark s : Bytes) → Parts 0 (length mark) s (cut_at mark s)
-cut_parts mark s = cut_parts_by mark s (eq-or-lt_of_le (distance_within mark s))
-
-first_parts : (closing c : ℕ) (u : Bytes) (o : Option (Bytes × Bytes)) → Parts 0 closing u o → Parts 0 closing (c ∷ u) (option_map (λ p. (c ∷ p.0, p.1)) o)
-first_parts closing c u None h = tt
-first_parts closing c u (Some p) h =
-    (ap (λ t. c ∷ t) h.0, h.1 ∙ ap (λ n. drop n (c ∷ u)) (let z : suc (0 + length p.0 + closing) ≡ 0 + suc (length p.0) + closing = omega arith in z))
-
-after_one_parts : (mark s : Bytes) → Parts 0 (length mark) s (cut_after_one mark s)
-after_one_parts mark [] = tt
-after_one_parts mark (c ∷ u) = first_parts (length mark) c u (cut_at mark u) (cut_parts mark u)
-
-parts_on : (opening closing : ℕ) (s : Bytes) (o : Option (Bytes × Bytes)) → Parts 0 closing (drop opening s) o → Parts opening closing s o
-parts_on opening closing s None h = tt
-parts_on opening closing s (Some p) h =
-    (h.0, h.1 ∙ drop_drop (0 + length p.0 + closing) opening s ∙ ap (λ n. drop n s) (let z : opening + (0 + length p.0 + closing) ≡ opening + length p.0 + closing = omega arith in z))
-
-parts_if : (opening closing : ℕ) (s : Bytes) (b : Bool) (o : Option (Bytes × Bytes)) → Parts opening closing s o → Parts opening closing s (if b then o else None)
-parts_if opening closing s true o h = h
-parts_if opening closing s false o h = tt
-
-parts_short : (opening closing : ℕ) (s : Bytes) (o : Option (Bytes × Bytes)) → Parts opening closing s o → Parts opening closing s (option_and_then if_short o)
-parts_short opening closing s None h = tt
-parts_short opening closing s (Some p) h = parts_if opening closing s (nat_le (length p.0) 512) (Some p) h
-
-enclosed_parts : (mark s : Bytes) → Parts (length mark) (length mark) s (enclosed mark s)
-enclosed_parts mark s =
-    parts_if (length mark) (length mark) s (begins mark s) (cut_after_one mark (drop (length mark) s))
-    (parts_on (length mark) (length mark) s (cut_after_one mark (drop (length mark) s)) (after_one_parts mark (drop (length mark) s)))
-
-bracketed_parts : (opening closing s : Bytes) → Parts (length opening) (length closing) s (bracketed opening closing s)
-bracketed_parts opening closing s =
-    parts_if (length opening) (length closing) s (begins opening s) (option_and_then if_short (cut_at closing (drop (length opening) s)))
-    (parts_short (length opening) (length closing) s (cut_at closing (drop (length opening) s))
-    (parts_on (length opening) (length closing) s (cut_at closing (drop (length opening) s)) (cut_parts closing (drop (length opening) s))))
-
--- one kind of marks
-abbrev pub Inside : (at to w : ℕ) (text : Bytes) (l : ℕ) → (Bytes → Bytes → Option html.Mark) → Option html.Mark
-Inside at to w text l g = if nat_le (at + w + l + w) to then g (between (at + w) (at + w + l) text) (between (at + w + l + w) to text) else None
-
-inside_by : (at to w : ℕ) (text : Bytes) (p : Bytes × Bytes) (g : Bytes → Bytes → Option html.Mark) → at ≤ to → Parts w w (drop at text) (Some p)
-    → (at + w + length p.0 + w ≤ to) ⊎ (to < at + w + length p.0 + w)
-    → Inside at to w text (length p.0) g ≡ option_and_then (λ q. g q.0 q.1) (clip w w (to - at) p)
-inside_by at to w text p g o h (inl fit) =
-    let l = length p.0 in
-    let whole : Inside at to w text l g ≡ g (between (at + w) (at + w + l) text) (between (at + w + l + w) to text) = rw (yes_le (at + w + l + w) to fit) refl in
-    let inner : between (at + w) (at + w + l) text ≡ p.0 =
-    ap (λ n. take n (drop (at + w) text)) (let z : at + w + l - (at + w) ≡ l = omega arith in z) ∙ ap (take l) (sym (drop_drop w at text)) ∙ sym h.0 in
-    let rest : between (at + w + l + w) to text ≡ take (to - at - (w + l + w)) p.1 =
-    ap (λ n. take n (drop (at + w + l + w) text)) (let z : to - (at + w + l + w) ≡ to - at - (w + l + w) = omega arith in z)
-    ∙ ap (λ n. take (to - at - (w + l + w)) (drop n text)) (let z : at + w + l + w ≡ at + (w + l + w) = omega arith in z)
-    ∙ ap (take (to - at - (w + l + w))) (sym (drop_drop (w + l + w) at text) ∙ sym h.1) in
-    whole ∙ ap (λ x. g x (between (at + w + l + w) to text)) inner ∙ ap (g p.0) rest
-    ∙ sym (ap (option_and_then (λ q. g q.0 q.1)) (clip_kept w w (to - at) l p.0 p.1 refl (omega (arith, fit))))
-inside_by at to w text p g o h (inr miss) =
-    let l = length p.0 in
-    let none : Inside at to w text l g ≡ None = rw (no_le (at + w + l + w) to miss) refl in
-    none ∙ sym (ap (option_and_then (λ q. g q.0 q.1)) (clip_lost w w (to - at) l p.0 p.1 refl (omega (arith, miss, o))))
-
-inner_is : (at w : ℕ) (text : Bytes) (p : Bytes × Bytes) → Parts w w (drop at text) (Some p) → between (at + w) (at + w + length p.0) text ≡ p.0
-inner_is at w text p h =
-    let l = length p.0 in
-    ap (λ n. take n (drop (at + w) text)) (let z : at + w + l - (at + w) ≡ l = omega arith in z) ∙ ap (take l) (sym (drop_drop w at text)) ∙ sym h.0
-
-kind : (f : Mark → Option html.Mark) (at to w : ℕ) (text : Bytes) (o : Option (Bytes × Bytes)) (h : Option (Bytes × Bytes) → List Mark) (g : Bytes → Bytes → Option html.Mark)
-    → at ≤ to → Parts w w (drop at text) o → pick f (h None) ≡ None
-    → ((p : Bytes × Bytes) → Parts w w (drop at text) (Some p) → pick f (h (Some p)) ≡ Inside at to w text (length p.0) g)
-    → pick f (h o) ≡ option_and_then (λ q. g q.0 q.1) (option_and_then (clip w w (to - at)) o)
-kind f at to w text None h g o parts none some = none
-kind f at to w text (Some p) h g o parts none some = some p parts ∙ inside_by at to w text p g o parts (at_most_or_past (at + w + length p.0 + w) to)
-
-two_is : (make : Bytes → Bytes → html.Mark) (o : Option (Bytes × Bytes)) → option_and_then (λ q. Some (make q.0 q.1)) o ≡ two make o
-two_is make None = refl
-two_is make (Some p) = refl
-
-opens : (at w l : ℕ) → nat_le (at + w) (at + w + l) ≡ true
-opens at w l = yes_le (at + w) (at + w + l) (omega arith)
-
-pick_five : (templates : Templates) (b : Bool) (n at to : ℕ) (text : Bytes) → at ≤ to → to ≤ length text
-    → pick (as_used templates b n to text) (quote_marks 1 (codes "'''''") at (drop at text)) ≡ two BoldItalic (enclosed (codes "'''''") (between at to text))
-pick_five templates b n at to text o h =
-    kind (as_used templates b n to text) at to 5 text (enclosed (codes "'''''") (drop at text)) (quote_marks_of 1 at 5) (λ x y. Some (BoldItalic x y)) o (enclosed_parts (codes "'''''") (drop at text)) refl
-    (λ p parts. or_none (as_used templates b n to text (mark_with 1 at 5 p.0 None)) ∙ rw (opens at 5 (length p.0)) refl)
-    ∙ ap (option_and_then (λ q. Some (BoldItalic q.0 q.1))) (sym (enclosed_front (codes "'''''") (drop at text) (to - at) (omega arith) (omega (arith, o, h, length-drop at text))))
-    ∙ two_is BoldItalic (enclosed (codes "'''''") (between at to text))
-
-pick_three : (templates : Templates) (b : Bool) (n at to : ℕ) (text : Bytes) → at ≤ to → to ≤ length text
-    → pick (as_used templates b n to text) (quote_marks 2 (codes "'''") at (drop at text)) ≡ two Bold (enclosed (codes "'''") (between at to text))
-pick_three templates b n at to text o h =
-    kind (as_used templates b n to text) at to 3 text (enclosed (codes "'''") (drop at text)) (quote_marks_of 2 at 3) (λ x y. Some (Bold x y)) o (enclosed_parts (codes "'''") (drop at text)) refl
-    (λ p parts. or_none (as_used templates b n to text (mark_with 2 at 3 p.0 None)) ∙ rw (opens at 3 (length p.0)) refl)
-    ∙ ap (option_and_then (λ q. Some (Bold q.0 q.1))) (sym (enclosed_front (codes "'''") (drop at text) (to - at) (omega arith) (omega (arith, o, h, length-drop at text))))
-    ∙ two_is Bold (enclosed (codes "'''") (between at to text))
-
-pick_two : (templates : Templates) (b : Bool) (n at to : ℕ) (text : Bytes) → at ≤ to → to ≤ length text
-    → pick (as_used templates b n to text) (quote_marks 3 (codes "''") at (drop at text)) ≡ two Italic (enclosed (codes "''") (between at to text))
-pick_two templates b n at to text o h =
-    kind (as_used templates b n to text) at to 2 text (enclosed (codes "''") (drop at text)) (quote_marks_of 3 at 2) (λ x y. Some (Italic x y)) o (enclosed_parts (codes "''") (drop at text)) refl
-    (λ p parts. or_none (as_used templates b n to text (mark_with 3 at 2 p.0 None)) ∙ rw (opens at 2 (length p.0)) refl)
-    ∙ ap (option_and_then (λ q. Some (Italic q.0 q.1))) (sym (enclosed_front (codes "''") (drop at text) (to - at) (omega arith) (omega (arith, o, h, length-drop at text))))
-    ∙ two_is Italic (enclosed (codes "''") (between at to text))
-
-if_none : (b : Bool) → let none : Option html.Mark = None in (if b then none else none) ≡ none
-if_none true = refl
-if_none false = refl
+pub none_used : (at to : ℕ) (text : Bytes) → cut_within 5 at to text None ≡ enclosed (codes "'''''") (between at to text)
+    → cut_within 3 at to text None ≡ enclosed (codes "'''") (between at to text) → cut_within 2 at to text None ≡ enclosed (codes "''") (between at to text)
+    → marked at to text Letter ≡ first_quotes (between at to text)
+none_used at to text a b e = last_of_three at to text None a b e
 
 -- links
-abbrev pub link_of : Bytes → Bytes → Option html.Mark
-link_of x y = option_map (λ target. html.Link target (target_and_label x).1 y) (link_target x)
+abbrev pub linked : Bytes × Bytes → Option Title → Option html.Mark
+linked p target = option_map (λ t. html.Link t (target_and_label p.0).1 p.1) target
 
-link_some : (templates : Templates) (b : Bool) (n at to : ℕ) (text : Bytes) (p : Bytes × Bytes) (t : Option Title) → link_target p.0 ≡ t → link_target (between (at + 2) (at + 2 + length p.0) text) ≡ t
-    → pick (as_used templates b n to text) (named_marks_of 4 at p.0 t) ≡ Inside at to 2 text (length p.0) link_of
-link_some templates b n at to text p None e i = sym (rw i (if_none (nat_le (at + 2 + length p.0 + 2) to)))
-link_some templates b n at to text p (Some title) e i = or_none (as_used templates b n to text (mark_with 4 at 2 p.0 (Some title))) ∙ rw (opens at 2 (length p.0), i) refl
+pub link_used : (at to close : ℕ) (text : Bytes) (title : Title) → cut_within 2 at to text (Some close) ≡ bracketed (codes "[[") (codes "]]") (between at to text)
+    → Some title ≡ link_target (between (at + 2) close text)
+    → marked at to text (Link title close) ≡ option_and_then link (bracketed (codes "[[") (codes "]]") (between at to text))
+link_used at to close text title e t = ap (linked (between (at + 2) close text, between (close + 2) to text)) t ∙ ap (option_and_then link) e
 
-pick_link : (templates : Templates) (b : Bool) (n at to : ℕ) (text : Bytes) → at ≤ to → to ≤ length text
-    → pick (as_used templates b n to text) (bracket_marks 4 (codes "[[") (codes "]]") link_target at (drop at text)) ≡ option_and_then link (bracketed (codes "[[") (codes "]]") (between at to text))
-pick_link templates b n at to text o h =
-    kind (as_used templates b n to text) at to 2 text (bracketed (codes "[[") (codes "]]") (drop at text)) (bracket_marks_of 4 at link_target) link_of o (bracketed_parts (codes "[[") (codes "]]") (drop at text)) refl
-    (λ p parts. link_some templates b n at to text p (link_target p.0) refl (ap link_target (inner_is at 2 text p parts)))
-    ∙ ap (option_and_then link) (sym (bracketed_front (codes "[[") (codes "]]") (drop at text) (to - at) (omega arith) (omega (arith, o, h, length-drop at text))))
+pub link_unused : (at to close : ℕ) (text : Bytes) → cut_within 2 at to text (Some close) ≡ bracketed (codes "[[") (codes "]]") (between at to text)
+    → (let none : Option Title = None in none) ≡ link_target (between (at + 2) close text)
+    → marked at to text Letter ≡ option_and_then link (bracketed (codes "[[") (codes "]]") (between at to text))
+link_unused at to close text e t = ap (linked (between (at + 2) close text, between (close + 2) to text)) t ∙ ap (option_and_then link) e
 
 -- templates
-include_is : (n : ℕ) (rest : Bytes) (o : Option Text) → include_used n rest o ≡ option_and_then (λ text. if nat_le (n + length text) 262144 then Some (html.Include text rest) else None) o
-include_is n rest None = refl
-include_is n rest (Some text) = refl
+abbrev pub fitting : ℕ → Bytes → Option Text → Option html.Mark
+fitting n rest found = option_and_then (λ text. if nat_le (n + length text) 262144 then Some (html.Include text rest) else None) found
 
-abbrev pub include_of : Templates → ℕ → Bytes → Bytes → Option html.Mark
-include_of templates n x y = include templates n (x, y)
+fits_by : (n : ℕ) (rest : Bytes) (t : Text) (b : Bool) → nat_le (n + length t) 262144 ≡ b → n + length t ≤ 262144 → Some (html.Include t rest) ≡ fitting n rest (Some t)
+fits_by n rest t true e h = rw e refl
+fits_by n rest t false e h = let no : ⊥ = grind (arith, nat_tests) in absurd no
 
-abbrev pub including : Templates → ℕ → Option Title → Bytes → Option html.Mark
-including templates n t rest = option_and_then (λ text. if nat_le (n + length text) 262144 then Some (html.Include text rest) else None) (option_and_then templates t)
+past_by : (n : ℕ) (rest : Bytes) (t : Text) (b : Bool) → nat_le (n + length t) 262144 ≡ b → 262144 < n + length t → None ≡ fitting n rest (Some t)
+past_by n rest t false e h = rw e refl
+past_by n rest t true e h = let no : ⊥ = grind (arith, nat_tests) in absurd no
 
-include_some : (templates : Templates) (n at to : ℕ) (text : Bytes) (p : Bytes × Bytes) (t : Option Title) → template_named (between (at + 2) (at + 2 + length p.0) text) ≡ t
-    → pick (as_used templates true n to text) (named_marks_of 5 at p.0 t) ≡ Inside at to 2 text (length p.0) (include_of templates n)
-include_some templates n at to text p None i = sym (ap (λ t. if nat_le (at + 2 + length p.0 + 2) to then including templates n t (between (at + 2 + length p.0 + 2) to text) else None) i ∙ if_none (nat_le (at + 2 + length p.0 + 2) to))
-include_some templates n at to text p (Some title) i =
-    or_none (as_used templates true n to text (mark_with 5 at 2 p.0 (Some title)))
-    ∙ (let e : as_used templates true n to text (mark_with 5 at 2 p.0 (Some title)) ≡ (if nat_le (at + 2 + length p.0 + 2) to then include_used n (between (at + 2 + length p.0 + 2) to text) (templates title) else None) = rw (opens at 2 (length p.0)) refl in e)
-    ∙ ap (λ x. if nat_le (at + 2 + length p.0 + 2) to then x else None) (include_is n (between (at + 2 + length p.0 + 2) to text) (templates title))
-    ∙ sym (ap (λ t. if nat_le (at + 2 + length p.0 + 2) to then including templates n t (between (at + 2 + length p.0 + 2) to text) else None) i)
+if_fits : (at to n close : ℕ) (text : Bytes) (t : Text) (u : Use) → IsIncluded t n close u → marked at to text u ≡ fitting n (between (close + 2) to text) (Some t)
+if_fits at to n close text t Letter h = past_by n (between (close + 2) to text) t (nat_le (n + length t) 262144) refl h
+if_fits at to n close text t (Quotes emphasis place) h = absurd h
+if_fits at to n close text t (Link title place) h = absurd h
+if_fits at to n close text t (Include template place) h =
+    ap (λ x. Some (html.Include x (between (place + 2) to text))) h.0 ∙ ap (λ k. Some (html.Include t (between (k + 2) to text))) h.1
+    ∙ fits_by n (between (close + 2) to text) t (nat_le (n + length t) 262144) refl h.2
 
-unread : (templates : Templates) (n at to : ℕ) (text inner : Bytes) (t : Option Title) → pick (as_used templates false n to text) (named_marks_of 5 at inner t) ≡ None
-unread templates n at to text inner None = refl
-unread templates n at to text inner (Some title) = or_none (as_used templates false n to text (mark_with 5 at 2 inner (Some title))) ∙ if_none (nat_le (at + 2) (at + 2 + length inner) && nat_le (at + 2 + length inner + 2) to)
+included_is : (templates : Templates) (n : ℕ) (p : Bytes × Bytes) → include templates n p ≡ fitting n p.1 (text_named templates p.0)
+included_is templates n p = refl
 
-unread_all : (templates : Templates) (n at to : ℕ) (text : Bytes) (o : Option (Bytes × Bytes)) → pick (as_used templates false n to text) (bracket_marks_of 5 at template_named o) ≡ None
-unread_all templates n at to text None = refl
-unread_all templates n at to text (Some p) = unread templates n at to text p.0 (template_named p.0)
+pub template_used : (templates : Templates) (at to n close : ℕ) (text : Bytes) (t : Text) (u : Use) → cut_within 2 at to text (Some close) ≡ bracketed (codes "{{") (codes "}}") (between at to text)
+    → text_named templates (between (at + 2) close text) ≡ Some t → IsIncluded t n close u
+    → marked at to text u ≡ option_and_then (include templates n) (bracketed (codes "{{") (codes "}}") (between at to text))
+template_used templates at to n close text t u e f h =
+    if_fits at to n close text t u h ∙ ap (fitting n (between (close + 2) to text)) (sym f) ∙ ap (option_and_then (include templates n)) e
 
-pick_include : (templates : Templates) (b : Bool) (n at to : ℕ) (text : Bytes) → at ≤ to → to ≤ length text
-    → pick (as_used templates b n to text) (bracket_marks 5 (codes "{{") (codes "}}") template_named at (drop at text))
-    ≡ (if b then option_and_then (include templates n) (bracketed (codes "{{") (codes "}}") (between at to text)) else None)
-pick_include templates false n at to text o h = unread_all templates n at to text (bracketed (codes "{{") (codes "}}") (drop at text))
-pick_include templates true n at to text o h =
-    kind (as_used templates true n to text) at to 2 text (bracketed (codes "{{") (codes "}}") (drop at text)) (bracket_marks_of 5 at template_named) (include_of templates n) o (bracketed_parts (codes "{{") (codes "}}") (drop at text)) refl
-    (λ p parts. include_some templates n at to text p (template_named p.0) (ap template_named (inner_is at 2 text p parts)))
-    ∙ ap (option_and_then (include templates n)) (sym (bracketed_front (codes "{{") (codes "}}") (drop at text) (to - at) (omega arith) (omega (arith, o, h, length-drop at text))))
+pub template_unused : (templates : Templates) (at to n close : ℕ) (text : Bytes) → cut_within 2 at to text (Some close) ≡ bracketed (codes "{{") (codes "}}") (between at to text)
+    → text_named templates (between (at + 2) close text) ≡ None
+    → marked at to text Letter ≡ option_and_then (include templates n) (bracketed (codes "{{") (codes "}}") (between at to text))
+template_unused templates at to n close text e f = ap (fitting n (between (close + 2) to text)) (sym f) ∙ ap (option_and_then (include templates n)) e
 
--- the marks of a place, one rule after another
-flat_marks : (at : ℕ) (s : Bytes)
-    → marks_here at s ≡ quote_marks 1 (codes "'''''") at s ++ (quote_marks 2 (codes "'''") at s ++ (quote_marks 3 (codes "''") at s
-    ++ (bracket_marks 4 (codes "[[") (codes "]]") link_target at s ++ bracket_marks 5 (codes "{{") (codes "}}") template_named at s)))
-flat_marks at s =
-    let q1 = quote_marks 1 (codes "'''''") at s in
-    let q2 = quote_marks 2 (codes "'''") at s in
-    let q3 = quote_marks 3 (codes "''") at s in
-    let rest = bracket_marks 4 (codes "[[") (codes "]]") link_target at s ++ bracket_marks 5 (codes "{{") (codes "}}") template_named at s in
-    append_assoc q1 (q2 ++ q3) rest ∙ ap (λ ms. q1 ++ ms) (append_assoc q2 q3 rest)
+pub included_use : (at to n close : ℕ) (t : Text) (u : Use) → IsIncluded t n close u → at + 2 ≤ close → close + 2 ≤ to → IsUse at to n true u
+included_use at to n close t Letter h a b = tt
+included_use at to n close t (Quotes emphasis place) h a b = absurd h
+included_use at to n close t (Link title place) h a b = absurd h
+included_use at to n close t (Include template place) h a b = (omega (arith, a, h.1), omega (arith, b, h.1), refl, omega (arith, h.2, ap length h.0))
 
--- all rules at a place
-abbrev pub chain : Templates → Bool → ℕ → Bytes → Option html.Mark
-chain templates b n text =
-    or_else (two BoldItalic (enclosed (codes "'''''") text))
-    (or_else (two Bold (enclosed (codes "'''") text))
-    (or_else (two Italic (enclosed (codes "''") text))
-    (or_else (option_and_then link (bracketed (codes "[[") (codes "]]") text))
-    (if b then option_and_then (include templates n) (bracketed (codes "{{") (codes "}}") text) else None))))
+pub any_use : (at to n : ℕ) (reads : Bool) (u : Use) → IsUse at to 0 false u → IsUse at to n reads u
+any_use at to n reads Letter h = tt
+any_use at to n reads (Quotes emphasis place) h = h
+any_use at to n reads (Link title place) h = h
+any_use at to n reads (Include template place) h = let no : ⊥ = (let z : false ≡ true = h.2 in cc) in absurd no
 
-pick_here : (templates : Templates) (b : Bool) (n at to : ℕ) (text : Bytes) → at ≤ to → to ≤ length text
-    → pick (as_used templates b n to text) (marks_here at (drop at text)) ≡ chain templates b n (between at to text)
-pick_here templates b n at to text o h =
-    let f = as_used templates b n to text in
-    let s = drop at text in
-    let q1 = quote_marks 1 (codes "'''''") at s in
-    let q2 = quote_marks 2 (codes "'''") at s in
-    let q3 = quote_marks 3 (codes "''") at s in
-    let q4 = bracket_marks 4 (codes "[[") (codes "]]") link_target at s in
-    let q5 = bracket_marks 5 (codes "{{") (codes "}}") template_named at s in
-    ap (pick f) (flat_marks at s) ∙ pick_append f q1 (q2 ++ (q3 ++ (q4 ++ q5)))
-    ∙ ap (or_else (pick f q1)) (pick_append f q2 (q3 ++ (q4 ++ q5)) ∙ ap (or_else (pick f q2)) (pick_append f q3 (q4 ++ q5) ∙ ap (or_else (pick f q3)) (pick_append f q4 q5)))
-    ∙ rw (pick_five templates b n at to text o h, pick_three templates b n at to text o h, pick_two templates b n at to text o h, pick_link templates b n at to text o h, pick_include templates b n at to text o h) refl
+-- the first byte of a place says which rules can hold
+differs : (a b : ℕ) → (a ≡ b → ⊥) → nat_eq a b ≡ false
+differs a b h = grind (arith, nat_tests)
 
--- the marks of a place stand before those of later places
-abbrev pub AllAt : ℕ → List Mark → Type 0
-AllAt at [] = Unit {0}
-AllAt at (m ∷ marks) = (m.place ≡ at) × AllAt at marks
+quotes_none : (c : ℕ) (rest : Bytes) → (c ≡ 39 → ⊥) → first_quotes (c ∷ rest) ≡ None
+quotes_none c rest h = rw (differs 39 c (λ e. h (sym e))) refl
 
-all_append : (at : ℕ) (xs ys : List Mark) → AllAt at xs → AllAt at ys → AllAt at (xs ++ ys)
-all_append at [] ys h k = k
-all_append at (m ∷ xs) ys h k = (h.0, all_append at xs ys h.1 k)
+links_none : (c : ℕ) (rest : Bytes) → (c ≡ 91 → ⊥) → bracketed (codes "[[") (codes "]]") (c ∷ rest) ≡ None
+links_none c rest h = rw (differs 91 c (λ e. h (sym e))) refl
 
-quotes_at : (rule at w : ℕ) (o : Option (Bytes × Bytes)) → AllAt at (quote_marks_of rule at w o)
-quotes_at rule at w None = tt
-quotes_at rule at w (Some p) = (refl, tt)
+templates_none : (c : ℕ) (rest : Bytes) → (c ≡ 123 → ⊥) → bracketed (codes "{{") (codes "}}") (c ∷ rest) ≡ None
+templates_none c rest h = rw (differs 123 c (λ e. h (sym e))) refl
 
-named_at : (rule at : ℕ) (inner : Bytes) (t : Option Title) → AllAt at (named_marks_of rule at inner t)
-named_at rule at inner None = tt
-named_at rule at inner (Some t) = (refl, tt)
+-- the rules in their order, the three kinds of quotes as one
+abbrev pub in_order : (quotes links included : Option html.Mark) → html.Mark → html.Mark
+in_order quotes links included letter = unwrap_or (or_else quotes (or_else links included)) letter
 
-brackets_all_at : (rule at : ℕ) (named : Bytes → Option Title) (o : Option (Bytes × Bytes)) → AllAt at (bracket_marks_of rule at named o)
-brackets_all_at rule at named None = tt
-brackets_all_at rule at named (Some p) = named_at rule at p.0 (named p.0)
+abbrev pub if_read : Bool → Option html.Mark → Option html.Mark
+if_read b o = if b then o else None
 
-pub here_at : (at : ℕ) (s : Bytes) → AllAt at (marks_here at s)
-here_at at s =
-    let q1 = quote_marks 1 (codes "'''''") at s in
-    let q2 = quote_marks 2 (codes "'''") at s in
-    let q3 = quote_marks 3 (codes "''") at s in
-    let q4 = bracket_marks 4 (codes "[[") (codes "]]") link_target at s in
-    let q5 = bracket_marks 5 (codes "{{") (codes "}}") template_named at s in
-    subst (AllAt at) (sym (flat_marks at s)) (all_append at q1 (q2 ++ (q3 ++ (q4 ++ q5))) (quotes_at 1 at 5 (enclosed (codes "'''''") s))
-    (all_append at q2 (q3 ++ (q4 ++ q5)) (quotes_at 2 at 3 (enclosed (codes "'''") s))
-    (all_append at q3 (q4 ++ q5) (quotes_at 3 at 2 (enclosed (codes "''") s))
-    (all_append at q4 q5 (brackets_all_at 4 at link_target (bracketed (codes "[[") (codes "]]") s)) (brackets_all_at 5 at template_named (bracketed (codes "{{") (codes "}}") s))))))
+three_first : (a b c d e : Option html.Mark) (letter : html.Mark) → unwrap_or (or_else a (or_else b (or_else c (or_else d e)))) letter ≡ in_order (or_else a (or_else b c)) d e letter
+three_first None None None d e letter = refl
+three_first None None (Some z) d e letter = refl
+three_first None (Some y) c d e letter = refl
+three_first (Some x) b c d e letter = refl
 
-same_place : (a b : ℕ) → a ≡ b → nat_eq a b ≡ true
-same_place a b e = eq-eqb a b e
+mark_is : (templates : Templates) (b : Bool) (n c : ℕ) (rest : Bytes)
+    → mark_at templates b n c rest
+    ≡ in_order (first_quotes (c ∷ rest)) (option_and_then link (bracketed (codes "[[") (codes "]]") (c ∷ rest)))
+    (if_read b (option_and_then (include templates n) (bracketed (codes "{{") (codes "}}") (c ∷ rest)))) (html.Letter c rest)
+mark_is templates b n c rest =
+    three_first (two html.BoldItalic (enclosed (codes "'''''") (c ∷ rest))) (two html.Bold (enclosed (codes "'''") (c ∷ rest))) (two html.Italic (enclosed (codes "''") (c ∷ rest)))
+    (option_and_then link (bracketed (codes "[[") (codes "]]") (c ∷ rest)))
+    (if_read b (option_and_then (include templates n) (bracketed (codes "{{") (codes "}}") (c ∷ rest)))) (html.Letter c rest)
 
-other_place : (a b : ℕ) → b < a → nat_eq a b ≡ false
-other_place a b h = grind (arith, nat_tests)
+unread : (b : Bool) → if_read b None ≡ None
+unread true = refl
+unread false = refl
 
-pick_at_all : (at : ℕ) (f : Mark → Option html.Mark) (xs ys : List Mark) → AllAt at xs → pick_at at f (xs ++ ys) ≡ or_else (pick f xs) (pick_at at f ys)
-pick_at_all at f [] ys h = refl
-pick_at_all at f (m ∷ xs) ys h = rw (same_place m.place at h.0) (ap (or_else (f m)) (pick_at_all at f xs ys h.1) ∙ sym (or_or (f m) (pick f xs) (pick_at at f ys)))
+alone : (a : Option html.Mark) (letter : html.Mark) → in_order a None None letter ≡ unwrap_or a letter
+alone None letter = refl
+alone (Some m) letter = refl
 
-pick_at_past : (at j : ℕ) (f : Mark → Option html.Mark) (xs ys : List Mark) → at < j → AllAt j xs → pick_at at f ys ≡ None → pick_at at f (xs ++ ys) ≡ None
-pick_at_past at j f [] ys l h e = e
-pick_at_past at j f (m ∷ xs) ys l h e = let past : at < m.place = omega (arith, l, h.0) in rw (other_place m.place at past) refl
+no_template : (templates : Templates) (b : Bool) (n c : ℕ) (rest : Bytes) → (c ≡ 123 → ⊥)
+    → if_read b (option_and_then (include templates n) (bracketed (codes "{{") (codes "}}") (c ∷ rest))) ≡ None
+no_template templates b n c rest h = ap (λ o. if_read b (option_and_then (include templates n) o)) (templates_none c rest h) ∙ unread b
 
-pub past_none : (at j : ℕ) (f : Mark → Option html.Mark) (s : Bytes) → at < j → pick_at at f (marks_from j s) ≡ None
-past_none at j f [] l = refl
-past_none at j f (c ∷ s) l = pick_at_past at j f (marks_here j (c ∷ s)) (marks_from (suc j) s) l (here_at j (c ∷ s)) (past_none at (suc j) f s (omega (arith, l)))
+pub quotes_mark : (templates : Templates) (b : Bool) (n c : ℕ) (rest : Bytes) → c ≡ 39 → mark_at templates b n c rest ≡ unwrap_or (first_quotes (c ∷ rest)) (html.Letter c rest)
+quotes_mark templates b n c rest e =
+    let q = first_quotes (c ∷ rest) in
+    let t = if_read b (option_and_then (include templates n) (bracketed (codes "{{") (codes "}}") (c ∷ rest))) in
+    mark_is templates b n c rest
+    ∙ ap (λ o. in_order q (option_and_then link o) t (html.Letter c rest)) (links_none c rest (λ x. let no : ⊥ = omega (arith, e, x) in no))
+    ∙ ap (λ o. in_order q None o (html.Letter c rest)) (no_template templates b n c rest (λ x. let no : ⊥ = omega (arith, e, x) in no))
+    ∙ alone q (html.Letter c rest)
 
-front_on : (at to : ℕ) (text : Bytes) → at < to → to ≤ length text → between at to text ≡ get_or text at 0 ∷ between (at + 1) to text
-front_on at to text h k =
+beside : (a : Option html.Mark) (letter : html.Mark) → in_order None a None letter ≡ unwrap_or a letter
+beside None letter = refl
+beside (Some m) letter = refl
+
+pub link_mark : (templates : Templates) (b : Bool) (n c : ℕ) (rest : Bytes) → c ≡ 91
+    → mark_at templates b n c rest ≡ unwrap_or (option_and_then link (bracketed (codes "[[") (codes "]]") (c ∷ rest))) (html.Letter c rest)
+link_mark templates b n c rest e =
+    let l = option_and_then link (bracketed (codes "[[") (codes "]]") (c ∷ rest)) in
+    mark_is templates b n c rest
+    ∙ ap (λ q. in_order q l (if_read b (option_and_then (include templates n) (bracketed (codes "{{") (codes "}}") (c ∷ rest)))) (html.Letter c rest)) (quotes_none c rest (λ x. let no : ⊥ = omega (arith, e, x) in no))
+    ∙ ap (λ o. in_order None l o (html.Letter c rest)) (no_template templates b n c rest (λ x. let no : ⊥ = omega (arith, e, x) in no))
+    ∙ beside l (html.Letter c rest)
+
+pub template_mark : (templates : Templates) (n c : ℕ) (rest : Bytes) → c ≡ 123
+    → mark_at templates true n c rest ≡ unwrap_or (option_and_then (include templates n) (bracketed (codes "{{") (codes "}}") (c ∷ rest))) (html.Letter c rest)
+template_mark templates n c rest e =
+    let t = option_and_then (include templates n) (bracketed (codes "{{") (codes "}}") (c ∷ rest)) in
+    mark_is templates true n c rest
+    ∙ ap (λ q. in_order q (option_and_then link (bracketed (codes "[[") (codes "]]") (c ∷ rest))) t (html.Letter c rest)) (quotes_none c rest (λ x. let no : ⊥ = omega (arith, e, x) in no))
+    ∙ ap (λ o. in_order None (option_and_then link o) t (html.Letter c rest)) (links_none c rest (λ x. let no : ⊥ = omega (arith, e, x) in no))
+
+pub unread_mark : (templates : Templates) (n c : ℕ) (rest : Bytes) → c ≡ 123 → mark_at templates false n c rest ≡ html.Letter c rest
+unread_mark templates n c rest e =
+    mark_is templates false n c rest
+    ∙ ap (λ q. in_order q (option_and_then link (bracketed (codes "[[") (codes "]]") (c ∷ rest))) None (html.Letter c rest)) (quotes_none c rest (λ x. let no : ⊥ = omega (arith, e, x) in no))
+    ∙ ap (λ o. in_order None (option_and_then link o) None (html.Letter c rest)) (links_none c rest (λ x. let no : ⊥ = omega (arith, e, x) in no))
+
+pub letter_mark : (templates : Templates) (b : Bool) (n c : ℕ) (rest : Bytes) → (c ≡ 39 → ⊥) → (c ≡ 91 → ⊥) → (c ≡ 123 → ⊥) → mark_at templates b n c rest ≡ html.Letter c rest
+letter_mark templates b n c rest x y z =
+    mark_is templates b n c rest
+    ∙ ap (λ q. in_order q (option_and_then link (bracketed (codes "[[") (codes "]]") (c ∷ rest))) (if_read b (option_and_then (include templates n) (bracketed (codes "{{") (codes "}}") (c ∷ rest)))) (html.Letter c rest)) (quotes_none c rest x)
+    ∙ ap (λ o. in_order None (option_and_then link o) (if_read b (option_and_then (include templates n) (bracketed (codes "{{") (codes "}}") (c ∷ rest)))) (html.Letter c rest)) (links_none c rest y)
+    ∙ ap (λ o. in_order None None o (html.Letter c rest)) (no_template templates b n c rest z)
+
+-- a text from a place on
+pub between_on : (at to : ℕ) (text : Bytes) → at < to → to ≤ length text → between at to text ≡ get_or text at 0 ∷ between (at + 1) to text
+between_on at to text h k =
     ap (take (to - at)) (drop-cons text at 0 (omega (arith, h, k)))
     ∙ ap (λ n. take n (get_or text at 0 ∷ drop (suc at) text)) (let z : to - at ≡ suc (to - (at + 1)) = omega arith in z)
     ∙ ap (λ n. get_or text at 0 ∷ take (to - (at + 1)) (drop n text)) (let z : suc at ≡ at + 1 = omega arith in z)
 
-pub between_on : (at to : ℕ) (text : Bytes) → at < to → to ≤ length text → between at to text ≡ get_or text at 0 ∷ between (at + 1) to text
-between_on at to text h k = front_on at to text h k
-
--- what the marks of a place give is the mark of the definition
-pub mark_is : (templates : Templates) (b : Bool) (n at to : ℕ) (text : Bytes) → at < to → to ≤ length text
-    → unwrap_or (pick_at at (as_used templates b n to text) (marks_from at (drop at text))) (html.Letter (get_or text at 0) (between (at + 1) to text))
-    ≡ mark_at templates b n (get_or text at 0) (between (at + 1) to text)
-mark_is templates b n at to text h k =
-    let f = as_used templates b n to text in
-    let here = marks_here at (drop at text) in
-    let later = marks_from (at + 1) (drop (at + 1) text) in
-    let letter = html.Letter (get_or text at 0) (between (at + 1) to text) in
-    let whole : pick_at at f (marks_from at (drop at text)) ≡ chain templates b n (get_or text at 0 ∷ between (at + 1) to text) =
-    ap (pick_at at f) (marks_on at text (omega (arith, h, k)))
-    ∙ pick_at_all at f here later (here_at at (drop at text))
-    ∙ ap (or_else (pick f here)) (past_none at (at + 1) f (drop (at + 1) text) (omega arith))
-    ∙ or_none (pick f here)
-    ∙ pick_here templates b n at to text (omega (arith, h)) k
-    ∙ ap (chain templates b n) (front_on at to text h k) in
-    ap (λ o. unwrap_or o letter) whole
+-- the mark of the place, from what was found there
+pub mark_found : (at to : ℕ) (text : Bytes) (u : Use) (found : Bytes → Option html.Mark) (mark : html.Mark) → at < to → to ≤ length text
+    → marked at to text u ≡ found (between at to text)
+    → mark ≡ unwrap_or (found (get_or text at 0 ∷ between (at + 1) to text)) (html.Letter (get_or text at 0) (between (at + 1) to text))
+    → mark_used at to text u ≡ mark
+mark_found at to text u found mark h k e m =
+    ap (λ o. unwrap_or o (html.Letter (get_or text at 0) (between (at + 1) to text))) (e ∙ ap found (between_on at to text h k)) ∙ sym m

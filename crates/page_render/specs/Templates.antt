@@ -1,22 +1,37 @@
--- The template pages that are there, found by an index of their titles.
-use Rattle.std.specs.Prelude.{ℕ, List, [], ◌∷◌, suc, Option, Some, None, option_map, option_and_then, if◌then◌else◌}
+-- The template pages, found by their titles.
+use Rattle.std.specs.Prelude.{ℕ, List, [], ◌∷◌, suc, ◌+◌, ◌<◌, ◌≡◌, length, get_or, Option, Some, None, option_map, option_and_then, if◌then◌else◌}
 use Rattle.std.specs.List.{slice_get}
 use Rattle.std.specs.Str.{bytes_eq}
 use Rattle.std.specs.BTreeMap.{BTreeMap, get}
+use Rattle.std.specs.declared.cmp.Ordering.TheVariants.{Less}
 use Rattle.wiki_titles.specs.Order.{bytes_cmp}
 use Rattle.wiki_model.specs.Bytes.{Bytes}
-use Rattle.wiki_model.specs.Titles.{Title}
-use Rattle.wiki_model.specs.Html.{Templates}
-use Rattle.page_render.specs.declared.choice.Pages.{Pages}
+use Rattle.wiki_model.specs.Titles.{Title, Text}
+use Rattle.wiki_model.specs.Html.{Templates, template_named}
+use Rattle.page_render.specs.declared.templates.Index.{Index}
+use Rattle.page_render.specs.declared.templates.Index.TheVariants.{InOrder, ByTitle}
 
--- the text at the place that the index has for the title
-abbrev pub indexed : BTreeMap Title ℕ → List (Bytes × Bytes) → Templates
-indexed index pairs title = option_and_then (λ place. option_map (λ pair. pair.1) (slice_get pairs place)) (get bytes_cmp index title)
-
-abbrev pub known : Pages → Templates
-known pages = indexed pages.index pages.templates.now
+abbrev pub Pairs : Type 0
+Pairs = List (Bytes × Bytes)
 
 -- the place of the first pair that has the title, counted from this one
-abbrev pub first_place : (at : ℕ) → List (Bytes × Bytes) → Title → Option ℕ
+abbrev pub first_place : (at : ℕ) → Pairs → Title → Option ℕ
 first_place at [] title = None
 first_place at (pair ∷ pairs) title = if bytes_eq pair.0 title then Some at else first_place (suc at) pairs title
+
+-- the text at the place that an index has for the title
+abbrev pub indexed : BTreeMap Title ℕ → Pairs → Templates
+indexed index pairs title = option_and_then (λ place. option_map (λ pair. pair.1) (slice_get pairs place)) (get bytes_cmp index title)
+
+-- each title is below the next
+abbrev pub IsRising : Pairs → Type 0
+IsRising pairs = (i : ℕ) (d : Bytes × Bytes) → i + 1 < length pairs → bytes_cmp (get_or pairs i d).0 (get_or pairs (i + 1) d).0 ≡ Less
+
+-- how the pages are found: in the list itself, or by the place of the first page of each title
+abbrev pub IsIndexOf : Index → Pairs → Type 0
+IsIndexOf InOrder pairs = IsRising pairs
+IsIndexOf (ByTitle places) pairs = (title : Title) → get bytes_cmp places title ≡ first_place 0 pairs title
+
+-- the text of the template that a text between braces names
+abbrev pub text_named : Templates → Bytes → Option Text
+text_named templates name = option_and_then templates (template_named name)

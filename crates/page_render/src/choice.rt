@@ -1,193 +1,263 @@
 // Which mark is used at a place.
-ghost use Rattle.std.specs.Prelude.{◌≡◌, ◌≤◌, ◌<◌, ◌+◌, ◌^◌, ℕ, List, length, drop, MatchOption, IfOk, Some, None};
-ghost use Rattle.page_markup.specs.Marks.{marks_from};
-ghost use Rattle.std.specs.BTreeMap.{get, Updates};
-ghost use Rattle.wiki_titles.specs.Order.{bytes_cmp};
-ghost use Rattle.page_render.specs.Templates.{known, first_place};
-ghost use Rattle.page_render.specs.Use.{IsUse, IsUsed, template_text, as_used, pick_at, width_of, skip_before};
+ghost use Rattle.std.specs.Prelude.{◌≡◌, ◌≤◌, ◌<◌, ◌+◌, ℕ, List, length, get_or, option_and_then, codes, IfOk, true, false};
+ghost use Rattle.wiki_model.specs.Html.{bracketed, link, include, mark_at};
+ghost use Rattle.page_markup.specs.Marks.{IsKnown};
+ghost use Rattle.page_markup.specs.Within.{between};
+ghost use Rattle.page_render.specs.Use.{IsUse, marked, mark_used, IsIncluded, first_quotes, template_text, width_of, opening_of, closing_of};
 
-use page_markup::Mark;
+use crate::templates::Pages;
+use page_markup::{Known, Names, brackets_within, quotes_within};
 use std::alloc::{AllocError, Global};
-use std::collections::BTreeMap;
 use wiki_titles::{Text, Title};
 
-/// The template pages, with an index of their titles.
-#[derive(Drop)]
-pub struct Pages<'a> {
-    index: BTreeMap<Title, usize>,
-    templates: &'a [(Title, Text)],
+/// What quotes stand for.
+#[derive(Clone, Copy, Debug, PartialEq, Eq)]
+pub enum Emphasis {
+    BoldItalic,
+    Bold,
+    Italic,
 }
 
-impl<'a> Pages<'a> {
-    /// The text of the template page of this title.
-    pub fn find(&self, title: &Title) -> Option<&'a Text>
-        ensures { MatchOption result (known self.now title.now ≡ None) (λ text. known self.now title.now ≡ Some text.now) }
+impl Emphasis {
+    /// How many quotes stand at each end.
+    pub fn width(self) -> usize
+        ensures { result ≡ width_of self }
     {
-        match self.index.get(title) {
-            Some(place) => match self.templates.get(*place) {
-                Some((_, text)) => Some(text),
-                None => None,
-            },
-            None => None,
+        match self {
+            Emphasis::BoldItalic => 5,
+            Emphasis::Bold => 3,
+            Emphasis::Italic => 2,
+        }
+    }
+
+    pub fn opening(self) -> &'static [u8]
+        ensures { result.now ≡ opening_of self }
+    {
+        match self {
+            Emphasis::BoldItalic => b"<b><i>",
+            Emphasis::Bold => b"<b>",
+            Emphasis::Italic => b"<i>",
+        }
+    }
+
+    pub fn closing(self) -> &'static [u8]
+        ensures { result.now ≡ closing_of self }
+    {
+        match self {
+            Emphasis::BoldItalic => b"</i></b>",
+            Emphasis::Bold => b"</b>",
+            Emphasis::Italic => b"</i>",
         }
     }
 }
 
-/// Enters the place of a title, over an earlier one.
-fn enter(index: &mut BTreeMap<Title, usize>, title: &Title, place: usize) -> Result<(), AllocError>
-    ensures { IfOk result (λ _. Updates bytes_cmp index.old index.new title.now (Some place)) }
-{
-    index.insert(title.clone()?, place)?;
-    Ok(())
-}
-
-/// The places of the pages by their titles; of pages with one title the first counts.
-fn index_of(
-    alloc: Global,
-    templates: &[(Title, Text)],
-) -> Result<BTreeMap<Title, usize>, AllocError>
-    ensures { IfOk result (λ index. (title : List ℕ) → get bytes_cmp index title ≡ first_place 0 templates.now title) }
-{
-    let mut index = BTreeMap::new(alloc);
-    let mut place = templates.len();
-    while 0 < place {
-        place -= 1;
-        enter(&mut index, &templates[place].0, place)?;
-    }
-    Ok(index)
-}
-
-/// The index is made once: each page is then found in logarithmic time.
-pub fn pages_of<'a>(alloc: Global, templates: &'a [(Title, Text)]) -> Result<Pages<'a>, AllocError>
-    ensures { IfOk result (λ pages. known pages ≡ template_text templates.now) }
-{
-    let index = index_of(alloc, templates)?;
-    Ok(Pages { index, templates })
-}
-
-/// The number of marks before the first at or after the place, of which there are at least `cursor`.
-pub fn skip_marks(marks: &[Mark], cursor: usize, at: usize) -> usize
-    requires { cursor ≤ length marks.now }
-    ensures end { result ≤ length marks.now }
-    ensures rest { drop result marks.now ≡ skip_before at (drop cursor marks.now) }
-{
-    let mut cursor = cursor;
-    while cursor < marks.len() {
-        if marks[cursor].place as usize >= at {
-            return cursor;
-        }
-        cursor += 1;
-    }
-    cursor
-}
-
-/// What is used at a place, and the place of its closing mark.
+/// What is used at a place, and where its closing mark stands.
 #[derive(Debug, Drop)]
-pub enum Use<'m, 'p> {
+pub enum Use<'p> {
     Letter,
-    Quotes {
-        rule: u8,
-        width: usize,
-        close: usize,
-    },
-    Link {
-        title: &'m Title,
-        close: usize,
-    },
-    Include {
-        text: &'p Text,
-        close: usize,
-    },
+    Quotes { emphasis: Emphasis, close: usize },
+    Link { title: Title, close: usize },
+    Include { text: &'p Text, close: usize },
 }
 
-/// The length of a closing mark.
-fn width(rule: u8) -> usize
-    ensures value { result ≡ width_of rule }
-    ensures most { result ≤ 5 }
-    ensures least { 2 ≤ result }
-{
-    if rule == 1 {
-        5
-    } else if rule == 2 {
-        3
-    } else {
-        2
-    }
+/// What is used at a place, and what is known of closing marks behind it.
+#[derive(Debug, Drop)]
+pub struct Chosen<'p> {
+    pub used: Use<'p>,
+    pub known: Known,
 }
 
-/// What the mark does within a text that ends at `to`; a letter where it can't be used there.
-fn use_of<'m, 'p>(
-    text: &[u8],
-    mark: &'m Mark,
-    to: usize,
-    reads: bool,
-    pages: &Pages<'p>,
-    included: usize,
-) -> Use<'m, 'p>
-    requires small { included ≤ 262144 }
-    ensures bounds { IsUse mark.now.place to included reads result }
-    ensures used { IsUsed text.now mark.now.place to result (as_used (known pages.now) reads included to text.now mark.now) }
+/// The quotes that are used at the place.
+#[tactic(auto, using(crate::proofs::Picks::five_used, crate::proofs::Picks::three_used, crate::proofs::Picks::two_used, crate::proofs::Picks::none_used))]
+fn quotes_at<'p>(text: &str, at: usize, to: usize, known: Known) -> Chosen<'p>
+    requires order { at < to }
+    requires within { to ≤ length text.now }
+    requires known { IsKnown text.now at known }
+    ensures bounds { IsUse at to 0 false result.used }
+    ensures used { marked at to text.now result.used ≡ first_quotes (between at to text.now) }
+    ensures known { IsKnown text.now (at + 1) result.known }
 {
-    let at = mark.place as usize;
-    let close = mark.close as usize;
-    let width = width(mark.rule);
-    if close < at + width || to < close + width {
-        return Use::Letter;
-    }
-    if mark.rule < 4 {
-        return Use::Quotes {
-            rule: mark.rule,
-            width,
-            close,
+    let five = quotes_within(text, b"'''''", at, to, known.five);
+    let known = Known {
+        five: five.known,
+        ..known
+    };
+    if let Some(close) = five.close {
+        return Chosen {
+            used: Use::Quotes {
+                emphasis: Emphasis::BoldItalic,
+                close,
+            },
+            known,
         };
     }
-    match &mark.title {
-        None => Use::Letter,
-        Some(title) => {
-            if mark.rule == 4 {
-                return Use::Link { title, close };
-            }
-            if !reads {
-                return Use::Letter;
-            }
-            match pages.find(title) {
-                None => Use::Letter,
-                Some(template) => {
-                    if included + template.text().len() <= 262_144 {
-                        Use::Include {
-                            text: template,
-                            close,
-                        }
-                    } else {
-                        Use::Letter
-                    }
-                }
+    let three = quotes_within(text, b"'''", at, to, known.three);
+    let known = Known {
+        three: three.known,
+        ..known
+    };
+    if let Some(close) = three.close {
+        return Chosen {
+            used: Use::Quotes {
+                emphasis: Emphasis::Bold,
+                close,
+            },
+            known,
+        };
+    }
+    let two = quotes_within(text, b"''", at, to, known.two);
+    let known = Known {
+        two: two.known,
+        ..known
+    };
+    match two.close {
+        Some(close) => Chosen {
+            used: Use::Quotes {
+                emphasis: Emphasis::Italic,
+                close,
+            },
+            known,
+        },
+        None => Chosen {
+            used: Use::Letter,
+            known,
+        },
+    }
+}
+
+/// The link that is used at the place.
+#[tactic(auto, using(crate::proofs::Picks::link_used, crate::proofs::Picks::link_unused))]
+fn link_at<'p>(
+    alloc: Global,
+    text: &str,
+    at: usize,
+    to: usize,
+    known: Known,
+) -> Result<Chosen<'p>, AllocError>
+    requires order { at < to }
+    requires within { to ≤ length text.now }
+    requires known { IsKnown text.now at known }
+    ensures bounds { IfOk result (λ chosen. IsUse at to 0 false chosen.used) }
+    ensures used { IfOk result (λ chosen. marked at to text.now chosen.used ≡ option_and_then link (bracketed (codes "[[") (codes "]]") (between at to text.now))) }
+    ensures known { IfOk result (λ chosen. IsKnown text.now (at + 1) chosen.known) }
+{
+    let brackets = brackets_within(text, Names::Links, at, to, known.brackets);
+    let known = Known {
+        brackets: brackets.known,
+        ..known
+    };
+    match brackets.close {
+        None => Ok(Chosen {
+            used: Use::Letter,
+            known,
+        }),
+        Some(close) => {
+            match page_markup::link_title(alloc, page_markup::part(text, at + 2, close))? {
+                Some(title) => Ok(Chosen {
+                    used: Use::Link { title, close },
+                    known,
+                }),
+                None => Ok(Chosen {
+                    used: Use::Letter,
+                    known,
+                }),
             }
         }
     }
 }
 
-/// What is used at the place.
-pub fn choose<'m, 'p>(
-    text: &[u8],
-    marks: &'m [Mark],
-    cursor: usize,
+/// The template that is included at the place.
+#[tactic(auto, using(crate::proofs::Picks::template_used, crate::proofs::Picks::template_unused, crate::proofs::Picks::included_use))]
+fn template_at<'p>(
+    alloc: Global,
+    pages: &Pages<'p>,
+    text: &str,
+    at: usize,
+    to: usize,
+    included: usize,
+    known: Known,
+) -> Result<Chosen<'p>, AllocError>
+    requires order { at < to }
+    requires within { to ≤ length text.now }
+    requires included { included ≤ 262144 }
+    requires known { IsKnown text.now at known }
+    ensures bounds { IfOk result (λ chosen. IsUse at to included true chosen.used) }
+    ensures used { IfOk result (λ chosen. marked at to text.now chosen.used ≡ option_and_then (include (template_text pages.now) included) (bracketed (codes "{{") (codes "}}") (between at to text.now))) }
+    ensures known { IfOk result (λ chosen. IsKnown text.now (at + 1) chosen.known) }
+{
+    let braces = brackets_within(text, Names::Templates, at, to, known.braces);
+    let known = Known {
+        braces: braces.known,
+        ..known
+    };
+    match braces.close {
+        None => Ok(Chosen {
+            used: Use::Letter,
+            known,
+        }),
+        Some(close) => match pages.find(alloc, page_markup::part(text, at + 2, close))? {
+            None => Ok(Chosen {
+                used: Use::Letter,
+                known,
+            }),
+            Some(template) => Ok(Chosen {
+                used: if_it_fits(template, included, close),
+                known,
+            }),
+        },
+    }
+}
+
+/// A template is included where its bytes fit beside those included before.
+fn if_it_fits<'p>(template: &'p Text, included: usize, close: usize) -> Use<'p>
+    requires { included ≤ 262144 }
+    ensures { IsIncluded template.now included close result }
+{
+    if included + template.text().len() <= 262_144 {
+        Use::Include {
+            text: template,
+            close,
+        }
+    } else {
+        Use::Letter
+    }
+}
+
+/// What is used at the place; a template only where they are read.
+pub fn choose<'p>(
+    alloc: Global,
+    pages: &Pages<'p>,
+    text: &str,
     at: usize,
     to: usize,
     reads: bool,
-    pages: &Pages<'p>,
     included: usize,
-) -> Use<'m, 'p>
-    requires small { included ≤ 262144 }
-    ensures bounds { IsUse at to included reads result }
-    ensures used { IsUsed text.now at to result (pick_at at (as_used (known pages.now) reads included to text.now) (drop cursor marks.now)) }
+    known: Known,
+) -> Result<Chosen<'p>, AllocError>
+    requires order { at < to }
+    requires within { to ≤ length text.now }
+    requires included { included ≤ 262144 }
+    requires known { IsKnown text.now at known }
+    ensures bounds { IfOk result (λ chosen. IsUse at to included reads chosen.used) }
+    ensures used { IfOk result (λ chosen. mark_used at to text.now chosen.used ≡ mark_at (template_text pages.now) reads included (get_or text.now at 0) (between (at + 1) to text.now)) }
+    ensures known { IfOk result (λ chosen. IsKnown text.now (at + 1) chosen.known) }
 {
-    let mut cursor = cursor;
-    while cursor < marks.len() && marks[cursor].place as usize == at {
-        match use_of(text, &marks[cursor], to, reads, pages, included) {
-            Use::Letter => cursor += 1,
-            found => return found,
+    let first = text.as_bytes()[at];
+    if first == b'\'' {
+        return Ok(quotes_at(text, at, to, known));
+    }
+    if first == b'[' {
+        let chosen = link_at(alloc, text, at, to, known)?;
+        return Ok(chosen);
+    }
+    if first == b'{' {
+        if reads {
+            let chosen = template_at(alloc, pages, text, at, to, included, known)?;
+            return Ok(chosen);
         }
     }
-    Use::Letter
+    Ok(Chosen {
+        used: Use::Letter,
+        known,
+    })
 }

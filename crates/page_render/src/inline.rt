@@ -1,69 +1,26 @@
 // The HTML of a text that is read inline.
-ghost use Rattle.std.specs.Prelude.{◌≡◌, ◌≤◌, ◌<◌, ◌+◌, ◌++◌, ℕ, List, IfOk, length, drop, take, map, ◌-◌};
+ghost use Rattle.std.specs.Prelude.{◌≡◌, ◌≤◌, ◌<◌, ◌+◌, ◌++◌, ℕ, List, IfOk, length, drop, take, ◌-◌, codes, true};
+ghost use Rattle.std.specs.List.{list_all};
 ghost use Rattle.wiki_model.specs.Html.{inline, escaped, target_and_label};
 ghost use Rattle.wiki_model.specs.Titles.{url_of};
-ghost use Rattle.std.specs.Prelude.{codes};
-ghost use Rattle.page_markup.specs.Marks.{marks_from, next_place};
-ghost use Rattle.page_markup.specs.Tree.{inline_of};
-ghost use Rattle.page_render.specs.Parts.{IsRead};
-ghost use Rattle.page_render.specs.Templates.{known};
-ghost use Rattle.page_render.specs.Use.{between, GoesOn, AreMarks, opening_of, closing_of};
 ghost use Rattle.wiki_model.specs.Bytes.{replaced, line_feed, space};
+ghost use Rattle.page_markup.specs.Marks.{IsKnown};
+ghost use Rattle.page_markup.specs.Within.{between};
+ghost use Rattle.page_render.specs.Use.{GoesOn, is_bare, template_text};
 
-use crate::choice::{self, Pages, Use};
+use crate::choice::{self, Use};
 use crate::tags;
-use farm_base::Memory;
-use page_markup::{Inline, Mark};
+use crate::templates::Pages;
+use page_markup::Known;
 use std::alloc::{AllocError, Global};
 use wiki_titles::{Text, Title};
-
-fn opening(rule: u8) -> &'static [u8]
-    ensures { result.now ≡ opening_of rule }
-{
-    if rule == 1 {
-        b"<b><i>"
-    } else if rule == 2 {
-        b"<b>"
-    } else {
-        b"<i>"
-    }
-}
-
-fn closing(rule: u8) -> &'static [u8]
-    ensures { result.now ≡ closing_of rule }
-{
-    if rule == 1 {
-        b"</i></b>"
-    } else if rule == 2 {
-        b"</b>"
-    } else {
-        b"</i>"
-    }
-}
-
-/// The place of the first bar, or the text's end.
-#[tactic(auto, using(crate::proofs::Labels::bar_on, crate::proofs::Labels::bar_here))]
-fn find_bar(inner: &[u8]) -> usize
-    ensures place { result ≡ next_place (codes "|") 0 inner.now }
-    ensures end { result ≤ length inner.now }
-{
-    let mut at = 0;
-    while at < inner.len() {
-        let (_, rest) = inner.split_at(at);
-        if rest.starts_with(b"|") {
-            return at;
-        }
-        at += 1;
-    }
-    at
-}
 
 /// Writes what a link shows: what stands behind its first bar, or else its target.
 #[tactic(auto, using(crate::proofs::Labels::label_short, crate::proofs::Labels::label_long))]
 fn write_label(out: &mut Vec<u8>, inner: &[u8]) -> Result<(), AllocError>
     ensures { IfOk result (λ _. out.new.items ≡ out.old.items ++ escaped (target_and_label inner.now).1) }
 {
-    let bar = find_bar(inner);
+    let bar = page_markup::find_in(inner, b'|', 0);
     let (target, rest) = inner.split_at(bar);
     if rest.len() < 2 {
         tags::write_escaped(out, target)
@@ -96,23 +53,6 @@ fn write_link(
     out.extend_from_slice(b"</a>")
 }
 
-/// A text that is read in one line: each line feed is a space.
-pub fn read_line(alloc: Global, text: &Text) -> Result<Inline, AllocError>
-    ensures { IfOk result (λ part. part ≡ inline_of (replaced line_feed space text.now)) }
-{
-    match read_spaced(alloc, text) {
-        Ok(part) => Ok(part),
-        Err(Memory) => Err(AllocError),
-    }
-}
-
-fn read_spaced(alloc: Global, text: &Text) -> Result<Inline, Memory>
-    ensures { IfOk result (λ part. part ≡ inline_of (replaced line_feed space text.now)) }
-{
-    let spaced = page_markup::with_spaces(alloc, text.text())?;
-    page_markup::read_inline(alloc, spaced.as_str())
-}
-
 /// The bytes of a text between two places.
 fn part(text: &[u8], from: usize, to: usize) -> &[u8]
     requires order { from ≤ to }
@@ -124,121 +64,200 @@ fn part(text: &[u8], from: usize, to: usize) -> &[u8]
     front
 }
 
-/// The next place to read, and the template bytes included before it.
+fn is_bare(byte: u8) -> bool
+    ensures { result ≡ is_bare byte }
+{
+    !(byte == b'"'
+        || byte == b'&'
+        || byte == b'\''
+        || byte == b'<'
+        || byte == b'>'
+        || byte == b'['
+        || byte == b'{')
+}
+
+/// Where the run of bytes ends at which no mark begins and which need no escape.
+#[tactic(auto, using(crate::proofs::Runs::bare_more, crate::proofs::Runs::bare_none))]
+fn run_end(text: &[u8], from: usize, to: usize) -> usize
+    requires order { from ≤ to }
+    requires within { to ≤ length text.now }
+    ensures order { from ≤ result }
+    ensures within { result ≤ to }
+    ensures bare { list_all is_bare (between from result text.now) ≡ true }
+{
+    let mut at = from;
+    while at < to && is_bare(text[at]) {
+        at += 1;
+    }
+    at
+}
+
+/// How far a page is read: the template bytes that it has included, and what is known of closing marks in the text at hand.
+#[derive(Clone, Copy, Debug)]
+pub struct Progress {
+    pub included: usize,
+    pub known: Known,
+}
+
+/// The next place to read, and how far the page is read there.
 #[derive(Clone, Copy, Debug)]
 pub struct Next {
     pub at: usize,
-    pub included: usize,
+    pub progress: Progress,
 }
 
-/// Writes what stands at the place.
+/// Writes what stands at the place: a run of letters, or what is used there.
 #[cycle(texts)]
 fn write_place<'p>(
     alloc: Global,
     out: &mut Vec<u8>,
-    text: &[u8],
-    marks: &[Mark],
-    cursor: usize,
+    pages: &Pages<'p>,
+    text: &str,
     at: usize,
     to: usize,
     depth: u8,
-    pages: &Pages<'p>,
-    included: usize,
+    progress: Progress,
 ) -> Result<Next, AllocError>
     requires order { at < to }
     requires within { to ≤ length text.now }
-    requires cursor { cursor ≤ length marks.now }
-    requires marks { drop cursor marks.now ≡ marks_from at (drop at text.now) }
-    requires included { included ≤ 262144 }
-    ensures bounds { IfOk result (λ next. (at < next.at) × (next.at ≤ to) × (next.included ≤ 262144)) }
-    ensures goes { IfOk result (λ next. GoesOn out.old.items out.new.items (inline (known pages.now) depth included (between at to text.now)) (inline (known pages.now) depth next.included (between next.at to text.now))) }
+    requires included { progress.included ≤ 262144 }
+    requires known { IsKnown text.now at progress.known }
+    ensures bounds { IfOk result (λ next. (at < next.at) × (next.at ≤ to) × (next.progress.included ≤ 262144)) }
+    ensures known { IfOk result (λ next. IsKnown text.now next.at next.progress.known) }
+    ensures goes { IfOk result (λ next. GoesOn out.old.items out.new.items (inline (template_text pages.now) depth progress.included (between at to text.now)) (inline (template_text pages.now) depth next.progress.included (between next.at to text.now))) }
 {
-    match choice::choose(text, marks, cursor, at, to, 0 < depth, pages, included) {
+    let bytes = text.as_bytes();
+    let end = run_end(bytes, at, to);
+    if at < end {
+        out.extend_from_slice(part(bytes, at, end))?;
+        return Ok(Next { at: end, progress });
+    }
+    let included = progress.included;
+    let chosen = choice::choose(
+        alloc,
+        pages,
+        text,
+        at,
+        to,
+        0 < depth,
+        included,
+        progress.known,
+    )?;
+    let known = chosen.known;
+    match &chosen.used {
         Use::Letter => {
-            tags::write_letter(out, text[at])?;
+            tags::write_letter(out, bytes[at])?;
             Ok(Next {
                 at: at + 1,
-                included,
+                progress: Progress { included, known },
             })
         }
-        Use::Quotes { rule, width, close } => {
-            out.extend_from_slice(opening(rule))?;
+        Use::Quotes { emphasis, close } => {
+            let close = *close;
+            let width = emphasis.width();
+            out.extend_from_slice(emphasis.opening())?;
             let after = write_text(
                 alloc,
                 out,
+                pages,
                 text,
-                marks,
-                cursor,
                 at + width,
                 close,
                 depth,
-                pages,
-                included,
+                Progress { included, known },
             )?;
-            out.extend_from_slice(closing(rule))?;
+            out.extend_from_slice(emphasis.closing())?;
             Ok(Next {
                 at: close + width,
-                included: after,
+                progress: after,
             })
         }
         Use::Link { title, close } => {
-            write_link(alloc, out, title, part(text, at + 2, close))?;
+            write_link(alloc, out, title, part(bytes, at + 2, *close))?;
             Ok(Next {
-                at: close + 2,
-                included,
+                at: *close + 2,
+                progress: Progress { included, known },
             })
         }
         Use::Include {
             text: template,
             close,
         } => {
-            let inner = read_line(alloc, template)?;
-            let after = write_part(
+            let after = write_line(
                 alloc,
                 out,
-                &inner,
-                depth - 1,
                 pages,
+                template,
+                depth - 1,
                 included + template.text().len(),
             )?;
             Ok(Next {
-                at: close + 2,
-                included: after,
+                at: *close + 2,
+                progress: Progress {
+                    included: after,
+                    known,
+                },
             })
         }
     }
 }
 
-/// Writes a text by its marks. Answers how many template bytes the page has included by then.
+/// Writes the text in one line. Answers how many template bytes the page has included by then.
+#[cycle(texts)]
+pub fn write_line<'p>(
+    alloc: Global,
+    out: &mut Vec<u8>,
+    pages: &Pages<'p>,
+    text: &Text,
+    depth: u8,
+    included: usize,
+) -> Result<usize, AllocError>
+    requires included { included ≤ 262144 }
+    ensures bound { IfOk result (λ n. n ≤ 262144) }
+    ensures html { IfOk result (λ n. out.new.items ≡ out.old.items ++ (inline (template_text pages.now) depth included (replaced line_feed space text.now)).html) }
+    ensures included { IfOk result (λ n. n ≡ (inline (template_text pages.now) depth included (replaced line_feed space text.now)).included) }
+{
+    let line = page_markup::in_one_line(alloc, text.text())?;
+    let after = write_part(
+        alloc,
+        out,
+        pages,
+        page_markup::line_text(&line),
+        depth,
+        included,
+    )?;
+    Ok(after)
+}
+
+/// Writes a whole text. Answers how many template bytes the page has included by then.
 #[cycle(texts)]
 pub fn write_part<'p>(
     alloc: Global,
     out: &mut Vec<u8>,
-    part: &Inline,
-    depth: u8,
     pages: &Pages<'p>,
+    text: &str,
+    depth: u8,
     included: usize,
 ) -> Result<usize, AllocError>
-    requires read { IsRead part.now }
     requires included { included ≤ 262144 }
     ensures bound { IfOk result (λ n. n ≤ 262144) }
-    ensures html { IfOk result (λ n. out.new.items ≡ out.old.items ++ (inline (known pages.now) depth included part.now.text).html) }
-    ensures included { IfOk result (λ n. n ≡ (inline (known pages.now) depth included part.now.text).included) }
+    ensures html { IfOk result (λ n. out.new.items ≡ out.old.items ++ (inline (template_text pages.now) depth included text.now).html) }
+    ensures included { IfOk result (λ n. n ≡ (inline (template_text pages.now) depth included text.now).included) }
 {
-    let text = part.text.as_str().as_bytes();
     let after = write_text(
         alloc,
         out,
+        pages,
         text,
-        part.marks.as_slice(),
-        0,
         0,
         text.len(),
         depth,
-        pages,
-        included,
+        Progress {
+            included,
+            known: Known::nothing(),
+        },
     )?;
-    Ok(after)
+    Ok(after.included)
 }
 
 /// Writes the text between two places.
@@ -246,34 +265,28 @@ pub fn write_part<'p>(
 fn write_text<'p>(
     alloc: Global,
     out: &mut Vec<u8>,
-    text: &[u8],
-    marks: &[Mark],
-    cursor: usize,
+    pages: &Pages<'p>,
+    text: &str,
     from: usize,
     to: usize,
     depth: u8,
-    pages: &Pages<'p>,
-    included: usize,
-) -> Result<usize, AllocError>
+    progress: Progress,
+) -> Result<Progress, AllocError>
     requires order { from ≤ to }
     requires within { to ≤ length text.now }
-    requires cursor { cursor ≤ length marks.now }
-    requires marks { AreMarks text.now marks.now cursor from }
-    requires included { included ≤ 262144 }
-    ensures bound { IfOk result (λ n. n ≤ 262144) }
-    ensures html { IfOk result (λ n. out.new.items ≡ out.old.items ++ (inline (known pages.now) depth included (between from to text.now)).html) }
-    ensures included { IfOk result (λ n. n ≡ (inline (known pages.now) depth included (between from to text.now)).included) }
+    requires included { progress.included ≤ 262144 }
+    requires known { IsKnown text.now from progress.known }
+    ensures bound { IfOk result (λ after. after.included ≤ 262144) }
+    ensures known { IfOk result (λ after. IsKnown text.now to after.known) }
+    ensures html { IfOk result (λ after. out.new.items ≡ out.old.items ++ (inline (template_text pages.now) depth progress.included (between from to text.now)).html) }
+    ensures included { IfOk result (λ after. after.included ≡ (inline (template_text pages.now) depth progress.included (between from to text.now)).included) }
 {
-    let mut cursor = cursor;
     let mut at = from;
-    let mut included = included;
+    let mut progress = progress;
     while at < to {
-        cursor = choice::skip_marks(marks, cursor, at);
-        let next = write_place(
-            alloc, out, text, marks, cursor, at, to, depth, pages, included,
-        )?;
+        let next = write_place(alloc, out, pages, text, at, to, depth, progress)?;
         at = next.at;
-        included = next.included;
+        progress = next.progress;
     }
-    Ok(included)
+    Ok(progress)
 }

@@ -8,5 +8,6 @@ mod choice;
 mod inline;
 mod page;
 mod tags;
+mod templates;
 
 pub use page::{Page, render};

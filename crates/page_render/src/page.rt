@@ -1,16 +1,14 @@
 // The HTML of a page.
-ghost use Rattle.std.specs.Prelude.{◌≡◌, ◌≤◌, ◌++◌, ◌+◌, ◌∷◌, ℕ, List, IfOk, length, map, codes, option_copied};
-ghost use Rattle.wiki_model.specs.Bytes.{pieces, line_feed};
-ghost use Rattle.wiki_model.specs.Html.{blocks, blocks_of, line_of, inline, each_between, heading_tag, line_end, depth_of, notice, page_html};
-ghost use Rattle.page_markup.specs.Tree.{tree_of};
-ghost use Rattle.page_render.specs.Parts.{AreRead, AllRead, HasLevel, texts_of, of_kind, read_blocks};
-ghost use Rattle.page_render.specs.Templates.{known};
+ghost use Rattle.std.specs.Prelude.{◌≡◌, ◌≤◌, ◌<◌, ◌++◌, ◌+◌, ◌∷◌, ℕ, List, IfOk, length, drop, codes, option_copied};
+ghost use Rattle.std.specs.Str.{IsCharBoundary};
+ghost use Rattle.wiki_model.specs.Html.{inline, element, heading_tag, line_end, depth_of, notice, page_html};
+ghost use Rattle.page_render.specs.Parts.{blocks_from, ended_list, list_from, list_of};
 ghost use Rattle.page_render.specs.Use.{template_text};
 
-use crate::choice::{self, Pages};
+use crate::templates::Pages;
 use crate::{inline, tags};
 use farm_base::Memory;
-use page_markup::{Block, BlockKind, Inline, Tree};
+use page_markup::Line;
 use std::alloc::{AllocError, Global};
 use std::marker::Model;
 use wiki_titles::{Text, Title};
@@ -37,36 +35,32 @@ impl Page {
     }
 }
 
-/// Writes each part between two tags.
-#[tactic(auto, using(crate::proofs::Frames::part_html, crate::proofs::Frames::part_included, crate::proofs::Frames::part_is_read, crate::proofs::Frames::parts_left))]
-fn write_parts(
+/// Writes a text that is read inline, between two tags.
+#[tactic(auto, using(crate::proofs::Labels::three_joined))]
+fn write_between(
     alloc: Global,
     out: &mut Vec<u8>,
+    pages: &Pages<'_>,
     opening: &[u8],
     closing: &[u8],
-    parts: &[Inline],
+    text: &str,
     depth: u8,
-    pages: &Pages<'_>,
     included: usize,
 ) -> Result<usize, AllocError>
-    requires read { AreRead parts.now }
     requires included { included ≤ 262144 }
     ensures bound { IfOk result (λ n. n ≤ 262144) }
-    ensures html { IfOk result (λ n. out.new.items ≡ out.old.items ++ (each_between (inline (known pages.now) depth) opening.now closing.now (texts_of parts.now) included).html) }
-    ensures included { IfOk result (λ n. n ≡ (each_between (inline (known pages.now) depth) opening.now closing.now (texts_of parts.now) included).included) }
+    ensures html { IfOk result (λ n. out.new.items ≡ out.old.items ++ element opening.now closing.now (inline (template_text pages.now) depth included text.now).html) }
+    ensures included { IfOk result (λ n. n ≡ (inline (template_text pages.now) depth included text.now).included) }
 {
-    let mut included = included;
-    for part in parts {
-        out.extend_from_slice(opening)?;
-        included = inline::write_part(alloc, out, part, depth, pages, included)?;
-        out.extend_from_slice(closing)?;
-    }
-    Ok(included)
+    out.extend_from_slice(opening)?;
+    let after = inline::write_part(alloc, out, pages, text, depth, included)?;
+    out.extend_from_slice(closing)?;
+    Ok(after)
 }
 
 /// The opening tag of a heading.
 fn heading_opening(level: u8) -> [u8; 4]
-    requires { level ≤ 9 }
+    requires { level ≤ 6 }
     ensures { result ≡ heading_tag (codes "<h") level }
 {
     [b'<', b'h', b'0' + level, b'>']
@@ -74,7 +68,7 @@ fn heading_opening(level: u8) -> [u8; 4]
 
 /// The closing tag of a heading, and the line's end.
 fn heading_closing(level: u8) -> [u8; 6]
-    requires { level ≤ 9 }
+    requires { level ≤ 6 }
     ensures { result ≡ heading_tag (codes "</h") level ++ line_end }
 {
     [b'<', b'/', b'h', b'0' + level, b'>', b'\n']
@@ -83,81 +77,203 @@ fn heading_closing(level: u8) -> [u8; 6]
 fn write_heading(
     alloc: Global,
     out: &mut Vec<u8>,
-    level: u8,
-    parts: &[Inline],
-    depth: u8,
     pages: &Pages<'_>,
+    level: u8,
+    middle: &str,
+    depth: u8,
     included: usize,
 ) -> Result<usize, AllocError>
-    requires level { level ≤ 9 }
-    requires read { AreRead parts.now }
+    requires level { level ≤ 6 }
     requires included { included ≤ 262144 }
     ensures bound { IfOk result (λ n. n ≤ 262144) }
-    ensures html { IfOk result (λ n. out.new.items ≡ out.old.items ++ (each_between (inline (known pages.now) depth) (heading_tag (codes "<h") level) (heading_tag (codes "</h") level ++ line_end) (texts_of parts.now) included).html) }
-    ensures included { IfOk result (λ n. n ≡ (each_between (inline (known pages.now) depth) (heading_tag (codes "<h") level) (heading_tag (codes "</h") level ++ line_end) (texts_of parts.now) included).included) }
+    ensures html { IfOk result (λ n. out.new.items ≡ out.old.items ++ element (heading_tag (codes "<h") level) (heading_tag (codes "</h") level ++ line_end) (inline (template_text pages.now) depth included middle.now).html) }
+    ensures included { IfOk result (λ n. n ≡ (inline (template_text pages.now) depth included middle.now).included) }
 {
-    write_parts(
+    write_between(
         alloc,
         out,
+        pages,
         &heading_opening(level),
         &heading_closing(level),
-        parts,
+        middle,
         depth,
-        pages,
         included,
     )
 }
 
+fn write_item(
+    alloc: Global,
+    out: &mut Vec<u8>,
+    pages: &Pages<'_>,
+    item: &str,
+    depth: u8,
+    included: usize,
+) -> Result<usize, AllocError>
+    requires included { included ≤ 262144 }
+    ensures bound { IfOk result (λ n. n ≤ 262144) }
+    ensures html { IfOk result (λ n. out.new.items ≡ out.old.items ++ element (codes "<li>") (codes "</li>" ++ line_end) (inline (template_text pages.now) depth included item.now).html) }
+    ensures included { IfOk result (λ n. n ≡ (inline (template_text pages.now) depth included item.now).included) }
+{
+    write_between(
+        alloc, out, pages, b"<li>", b"</li>\n", item, depth, included,
+    )
+}
+
+/// Where the next line begins, and how many template bytes are included before it.
+#[derive(Clone, Copy, Debug)]
+struct Written {
+    next: usize,
+    included: usize,
+}
+
+/// Writes the items of the list whose first line ends at the place, but for the first item.
+#[tactic(auto, using(crate::proofs::Frames::list_to_blank, crate::proofs::Frames::list_last))]
+fn write_items(
+    alloc: Global,
+    out: &mut Vec<u8>,
+    pages: &Pages<'_>,
+    text: &str,
+    end: usize,
+    depth: u8,
+    included: usize,
+) -> Result<Written, AllocError>
+    requires within { end ≤ length text.now }
+    requires cut { end < length text.now → IsCharBoundary text.now (end + 1) }
+    requires included { included ≤ 262144 }
+    ensures past { IfOk result (λ written. end < written.next) }
+    ensures cut { IfOk result (λ written. written.next < length text.now → IsCharBoundary text.now written.next) }
+    ensures bound { IfOk result (λ written. written.included ≤ 262144) }
+    ensures html { IfOk result (λ written. out.new.items ++ ended_list (inline (template_text pages.now) depth) written.included (drop written.next text.now) ≡ out.old.items ++ list_from (inline (template_text pages.now) depth) included (drop (end + 1) text.now)) }
+{
+    let mut end = end;
+    let mut included = included;
+    while end < text.len() {
+        let (line, next) = page_markup::line_at(text, end + 1);
+        match line {
+            Line::Item { text: item } => {
+                included = write_item(alloc, out, pages, item, depth, included)?;
+                end = next;
+            }
+            Line::Blank => {
+                return Ok(Written {
+                    next: end + 1,
+                    included,
+                });
+            }
+            Line::Heading { .. } => {
+                return Ok(Written {
+                    next: end + 1,
+                    included,
+                });
+            }
+            Line::Plain => {
+                return Ok(Written {
+                    next: end + 1,
+                    included,
+                });
+            }
+        }
+    }
+    Ok(Written {
+        next: end + 1,
+        included,
+    })
+}
+
+/// Writes the list whose first line has this item and ends at the place.
+fn write_list(
+    alloc: Global,
+    out: &mut Vec<u8>,
+    pages: &Pages<'_>,
+    text: &str,
+    first: &str,
+    end: usize,
+    depth: u8,
+    included: usize,
+) -> Result<Written, AllocError>
+    requires within { end ≤ length text.now }
+    requires cut { end < length text.now → IsCharBoundary text.now (end + 1) }
+    requires included { included ≤ 262144 }
+    ensures past { IfOk result (λ written. end < written.next) }
+    ensures cut { IfOk result (λ written. written.next < length text.now → IsCharBoundary text.now written.next) }
+    ensures bound { IfOk result (λ written. written.included ≤ 262144) }
+    ensures html { IfOk result (λ written. out.new.items ++ blocks_from (inline (template_text pages.now) depth) written.included (drop written.next text.now) ≡ out.old.items ++ list_of (inline (template_text pages.now) depth) included first.now (drop (end + 1) text.now)) }
+{
+    out.extend_from_slice(b"<ul>\n")?;
+    let after = write_item(alloc, out, pages, first, depth, included)?;
+    let written = write_items(alloc, out, pages, text, end, depth, after)?;
+    out.extend_from_slice(b"</ul>\n")?;
+    Ok(written)
+}
+
+/// Writes the block that begins at the place, if one does.
+#[tactic(auto, using(crate::proofs::Frames::blank_goes, crate::proofs::Frames::paragraph_goes))]
 fn write_block(
     alloc: Global,
     out: &mut Vec<u8>,
-    block: &Block,
-    depth: u8,
     pages: &Pages<'_>,
+    text: &str,
+    at: usize,
+    depth: u8,
     included: usize,
-) -> Result<usize, AllocError>
-    requires read { AreRead block.now.parts }
-    requires level { HasLevel block.now.kind }
+) -> Result<Written, AllocError>
+    requires within { at < length text.now }
+    requires cut { IsCharBoundary text.now at }
     requires included { included ≤ 262144 }
-    ensures bound { IfOk result (λ n. n ≤ 262144) }
-    ensures html { IfOk result (λ n. out.new.items ≡ out.old.items ++ (of_kind (inline (known pages.now) depth) block.now.kind block.now.parts included).html) }
-    ensures included { IfOk result (λ n. n ≡ (of_kind (inline (known pages.now) depth) block.now.kind block.now.parts included).included) }
+    ensures past { IfOk result (λ written. at < written.next) }
+    ensures cut { IfOk result (λ written. written.next < length text.now → IsCharBoundary text.now written.next) }
+    ensures bound { IfOk result (λ written. written.included ≤ 262144) }
+    ensures html { IfOk result (λ written. out.new.items ++ blocks_from (inline (template_text pages.now) depth) written.included (drop written.next text.now) ≡ out.old.items ++ blocks_from (inline (template_text pages.now) depth) included (drop at text.now)) }
 {
-    let parts = block.parts.as_slice();
-    match block.kind {
-        BlockKind::Heading(level) => write_heading(
-            alloc, out, level, parts, depth, pages, included,
-        ),
-        BlockKind::List => {
-            out.extend_from_slice(b"<ul>\n")?;
-            let after = write_parts(
-                alloc, out, b"<li>", b"</li>\n", parts, depth, pages, included,
-            )?;
-            out.extend_from_slice(b"</ul>\n")?;
-            Ok(after)
+    let (line, end) = page_markup::line_at(text, at);
+    match line {
+        Line::Blank => Ok(Written {
+            next: end + 1,
+            included,
+        }),
+        Line::Heading { level, middle } => {
+            let after = write_heading(alloc, out, pages, level, middle, depth, included)?;
+            Ok(Written {
+                next: end + 1,
+                included: after,
+            })
         }
-        BlockKind::Paragraph => write_parts(
-            alloc, out, b"<p>", b"</p>\n", parts, depth, pages, included,
-        ),
+        Line::Item { text: item } => {
+            let written = write_list(alloc, out, pages, text, item, end, depth, included)?;
+            Ok(written)
+        }
+        Line::Plain => {
+            let last = page_markup::paragraph_end(text, at, end);
+            let paragraph = page_markup::part(text, at, last);
+            let after = write_between(
+                alloc, out, pages, b"<p>", b"</p>\n", paragraph, depth, included,
+            )?;
+            Ok(Written {
+                next: last + 1,
+                included: after,
+            })
+        }
     }
 }
 
-#[tactic(auto, using(crate::proofs::Frames::block_goes, crate::proofs::Frames::block_is_read, crate::proofs::Frames::block_level, crate::proofs::Frames::blocks_left))]
+/// Writes the blocks of the text.
 fn write_blocks(
     alloc: Global,
     out: &mut Vec<u8>,
-    blocks: &[Block],
-    depth: u8,
     pages: &Pages<'_>,
+    text: &str,
+    depth: u8,
     included: usize,
 ) -> Result<(), AllocError>
-    requires read { AllRead blocks.now }
-    requires included { included ≤ 262144 }
-    ensures { IfOk result (λ _. out.new.items ≡ out.old.items ++ (read_blocks (inline (known pages.now) depth) blocks.now included).html) }
+    requires { included ≤ 262144 }
+    ensures { IfOk result (λ _. out.new.items ≡ out.old.items ++ blocks_from (inline (template_text pages.now) depth) included text.now) }
 {
+    let mut at = 0;
     let mut included = included;
-    for block in blocks {
-        included = write_block(alloc, out, block, depth, pages, included)?;
+    while at < text.len() {
+        let written = write_block(alloc, out, pages, text, at, depth, included)?;
+        at = written.next;
+        included = written.included;
     }
     Ok(())
 }
@@ -166,49 +282,22 @@ fn write_blocks(
 fn write_notice(
     alloc: Global,
     out: &mut Vec<u8>,
-    text: Option<&Text>,
     pages: &Pages<'_>,
+    text: Option<&Text>,
 ) -> Result<usize, AllocError>
     ensures bound { IfOk result (λ n. n ≤ 262144) }
-    ensures html { IfOk result (λ n. out.new.items ≡ out.old.items ++ (notice (known pages.now) (option_copied text.entry)).html) }
-    ensures included { IfOk result (λ n. n ≡ (notice (known pages.now) (option_copied text.entry)).included) }
+    ensures html { IfOk result (λ n. out.new.items ≡ out.old.items ++ (notice (template_text pages.now) (option_copied text.entry)).html) }
+    ensures included { IfOk result (λ n. n ≡ (notice (template_text pages.now) (option_copied text.entry)).included) }
 {
     match text {
         None => Ok(0),
         Some(text) => {
-            let part = inline::read_line(alloc, text)?;
             out.extend_from_slice(b"<div>")?;
-            let included = inline::write_part(alloc, out, &part, 0, pages, 0)?;
+            let included = inline::write_line(alloc, out, pages, text, 0, 0)?;
             out.extend_from_slice(b"</div>\n")?;
             Ok(included)
         }
     }
-}
-
-fn parse(alloc: Global, text: &Text) -> Result<Tree, AllocError>
-    ensures { IfOk result (λ tree. tree ≡ tree_of text.now) }
-{
-    match page_markup::parse(alloc, text) {
-        Ok(tree) => Ok(tree),
-        Err(Memory) => Err(AllocError),
-    }
-}
-
-/// Writes the blocks of the text.
-fn write_tree(
-    alloc: Global,
-    out: &mut Vec<u8>,
-    text: &Text,
-    depth: u8,
-    pages: &Pages<'_>,
-    included: usize,
-) -> Result<(), AllocError>
-    requires { included ≤ 262144 }
-    ensures { IfOk result (λ _. out.new.items ≡ out.old.items ++ (blocks (inline (known pages.now) depth) included (blocks_of (map line_of (pieces line_feed text.now)))).html) }
-{
-    let tree = parse(alloc, text)?;
-    write_blocks(alloc, out, tree.blocks.as_slice(), depth, pages, included)?;
-    Ok(())
 }
 
 /// How deep templates nest in a markup.
@@ -221,19 +310,19 @@ fn depth_of(markup: u8) -> u8
 fn write_page(
     alloc: Global,
     out: &mut Vec<u8>,
+    pages: &Pages<'_>,
     title: &Title,
     page: &Text,
-    pages: &Pages<'_>,
     notice: Option<&Text>,
     markup: u8,
 ) -> Result<(), AllocError>
-    ensures { IfOk result (λ _. out.new.items ≡ out.old.items ++ page_html markup title.now page.now (known pages.now) (option_copied notice.entry)) }
+    ensures { IfOk result (λ _. out.new.items ≡ out.old.items ++ page_html markup title.now page.now (template_text pages.now) (option_copied notice.entry)) }
 {
     out.extend_from_slice(b"<!DOCTYPE html>\n")?;
     tags::write_element(out, b"<title>", b"</title>\n", title.text())?;
-    let included = write_notice(alloc, out, notice, pages)?;
+    let included = write_notice(alloc, out, pages, notice)?;
     tags::write_element(out, b"<h1>", b"</h1>\n", title.text())?;
-    write_tree(alloc, out, page, depth_of(markup), pages, included)?;
+    write_blocks(alloc, out, pages, page.text(), depth_of(markup), included)?;
     Ok(())
 }
 
@@ -247,15 +336,16 @@ fn page_of(
 ) -> Result<Page, AllocError>
     ensures { IfOk result (λ made. made ≡ page_html markup title.now page.now (template_text templates.now) (option_copied notice.entry)) }
 {
-    let pages = choice::pages_of(alloc, templates)?;
+    let pages = Pages::of(alloc, templates)?;
     let mut html = Vec::new(alloc);
-    write_page(alloc, &mut html, title, page, &pages, notice, markup)?;
+    write_page(alloc, &mut html, &pages, title, page, notice, markup)?;
     Ok(Page { html })
 }
 
 /// The page of a title, with this text, these template pages and this notice, in markup 1 or 2. Of template pages with one title the
-/// first counts. Its time grows with the bytes of the text and of the templates that it includes, and of the pages by as much as a
-/// sort of their titles.
+/// first counts. Its time grows with the bytes of the text and of the templates that it includes, and with the number of template
+/// pages: by one look at each where their titles rise, and else as much as a sort of the titles takes. No tree and no list of marks is
+/// made, so besides the page itself it takes no memory that grows with the text.
 pub fn render(
     alloc: Global,
     title: &Title,

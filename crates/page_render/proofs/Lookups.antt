@@ -1,0 +1,164 @@
+-- Where a template page stands.
+use Rattle.std.proofs.Common.{zero, suc, [], ◌∷◌, List, length, drop, ◌≡◌, ℕ, ◌≤◌, ◌<◌, ◌+◌, ◌-◌, Bool, true, false, refl, arith, ap, sym, ◌∙◌, Some, None, get_or, cond, subst, inl, inr, ◌⊎◌}
+use Rattle.std.specs.Prelude.{Option, option_map, option_and_then, if◌then◌else◌}
+use Rattle.std.specs.List.{slice_get}
+use Rattle.std.specs.Str.{bytes_eq}
+use Rattle.std.specs.BTreeMap.{BTreeMap, get, Updates, is_at}
+use Rattle.std.specs.Ordering.{is_eq, ordering_reverse}
+use Rattle.std.specs.declared.cmp.Ordering.{Ordering}
+use Rattle.std.specs.declared.cmp.Ordering.TheVariants.{Less, Equal, Greater}
+use Rattle.std.specs.Cmp.Lexicographic.{texts_ties, nat_list_cmp_total}
+use Rattle.std.proofs.lemmas.List.{get_or_default}
+use Rattle.std.proofs.Math.Seq.{drop-cons}
+use Rattle.std.proofs.Math.Nat.{eq-or-lt_of_le}
+use Rattle.wiki_titles.specs.Order.{bytes_cmp}
+use Rattle.wiki_model.specs.Bytes.{Bytes}
+use Rattle.wiki_model.specs.Titles.{Title, Text}
+use Rattle.wiki_model.specs.Html.{Templates, template_named}
+use Rattle.page_markup.proofs.Taken.{at_most_or_past}
+use Rattle.page_render.specs.Templates.{Pairs, IsRising, indexed, first_place, text_named}
+use Rattle.page_render.specs.Use.{template_text}
+
+-- the text at the first place is the first text
+abbrev pub text_at : Pairs → Option ℕ → Option Bytes
+text_at pairs found = option_and_then (λ place. option_map (λ pair. pair.1) (slice_get pairs place)) found
+
+by_place : (pairs : Pairs) (at : ℕ) (rest : Pairs) (title : Title) (b : Bool) (p : Bytes × Bytes)
+    → option_map (λ pair. pair.1) (slice_get pairs at) ≡ Some p.1
+    → text_at pairs (first_place (suc at) rest title) ≡ template_text rest title
+    → text_at pairs (if b then Some at else first_place (suc at) rest title) ≡ (if b then Some p.1 else template_text rest title)
+by_place pairs at rest title true p e h = e
+by_place pairs at rest title false p e h = h
+
+get_drop : (pairs : Pairs) (at : ℕ) (p : Bytes × Bytes) (rest : Pairs) → drop at pairs ≡ p ∷ rest → slice_get pairs at ≡ Some p
+get_drop [] zero p rest e = let no : ⊥ = omega (arith, ap length e) in absurd no
+get_drop [] (suc at) p rest e = let no : ⊥ = omega (arith, ap length e) in absurd no
+get_drop (q ∷ pairs) zero p rest e = ap (λ l. slice_get l 0) e
+get_drop (q ∷ pairs) (suc at) p rest e = get_drop pairs at p rest e
+
+next_drop : (pairs : Pairs) (at : ℕ) (p : Bytes × Bytes) (rest : Pairs) → drop at pairs ≡ p ∷ rest → drop (suc at) pairs ≡ rest
+next_drop [] zero p rest e = let no : ⊥ = omega (arith, ap length e) in absurd no
+next_drop [] (suc at) p rest e = let no : ⊥ = omega (arith, ap length e) in absurd no
+next_drop (q ∷ pairs) zero p rest e = ap (drop 1) e
+next_drop (q ∷ pairs) (suc at) p rest e = next_drop pairs at p rest e
+
+first_text : (pairs : Pairs) (at : ℕ) (rest : Pairs) (title : Title) → drop at pairs ≡ rest → text_at pairs (first_place at rest title) ≡ template_text rest title
+first_text pairs at [] title e = refl
+first_text pairs at (p ∷ rest) title e =
+    by_place pairs at rest title (bytes_eq p.0 title) p (ap (λ o. option_map (λ pair. pair.1) o) (get_drop pairs at p rest e))
+    (first_text pairs (suc at) rest title (next_drop pairs at p rest e))
+
+pub index_serves : (index : BTreeMap Title ℕ) (pairs : Pairs) (title : Title) → get bytes_cmp index title ≡ first_place 0 pairs title → indexed index pairs title ≡ template_text pairs title
+index_serves index pairs title h = ap (text_at pairs) h ∙ first_text pairs 0 pairs title refl
+
+-- a page more in front
+chosen : (b c : Bool) (place : ℕ) (old : Option ℕ) → b ≡ c → cond c (Some place) old ≡ (if b then Some place else old)
+chosen true c place old e = ap (λ x. cond x (Some place) old) (sym e)
+chosen false c place old e = ap (λ x. cond x (Some place) old) (sym e)
+
+pub entered : (old new : BTreeMap Title ℕ) (pairs : Pairs) (place : ℕ) (title : Title) (d : Bytes × Bytes) → place < length pairs
+    → ((t : Title) → get bytes_cmp old t ≡ first_place (place + 1) (drop (place + 1) pairs) t)
+    → Updates bytes_cmp old new (get_or pairs place d).0 (Some place)
+    → get bytes_cmp new title ≡ first_place place (drop place pairs) title
+entered old new pairs place title d l h u =
+    let p = get_or pairs place d in
+    let e : suc place ≡ place + 1 = omega arith in
+    u.0 title
+    ∙ chosen (bytes_eq p.0 title) (is_at (bytes_cmp p.0) title) place (get bytes_cmp old title) (texts_ties p.0 title)
+    ∙ ap (λ o. if bytes_eq p.0 title then Some place else o) (h title ∙ ap (λ k. first_place k (drop k pairs) title) (sym e))
+    ∙ ap (λ ps. first_place place ps title) (sym (drop-cons pairs place d l))
+
+-- a template's name
+pub named : (templates : Templates) (name title : Bytes) → template_named name ≡ Some title → text_named templates name ≡ templates title
+named templates name title e = ap (option_and_then templates) e
+
+pub not_named : (templates : Templates) (name : Bytes) → template_named name ≡ None → text_named templates name ≡ None
+not_named templates name e = ap (option_and_then templates) e
+
+-- rising titles
+rising_by : (pairs : Pairs) → IsRising pairs → (i n : ℕ) (d : Bytes × Bytes) → i + suc n < length pairs → bytes_cmp (get_or pairs i d).0 (get_or pairs (i + suc n) d).0 ≡ Less
+rising_by pairs h i zero d l = h i d l
+rising_by pairs h i (suc n) d l =
+    let same : i + suc n + 1 ≡ i + suc (suc n) = omega arith in
+    nat_list_cmp_total.trans (get_or pairs i d).0 (get_or pairs (i + suc n) d).0 (get_or pairs (i + suc (suc n)) d).0
+    (rising_by pairs h i n d (omega (arith, l)))
+    (subst (λ k. bytes_cmp (get_or pairs (i + suc n) d).0 (get_or pairs k d).0 ≡ Less) same (h (i + suc n) d (omega (arith, l))))
+
+rising : (pairs : Pairs) → IsRising pairs → (i j : ℕ) (d : Bytes × Bytes) → i < j → j < length pairs → bytes_cmp (get_or pairs i d).0 (get_or pairs j d).0 ≡ Less
+rising pairs h i j d l k =
+    let same : i + suc (j - (i + 1)) ≡ j = omega (arith, l) in
+    subst (λ m. bytes_cmp (get_or pairs i d).0 (get_or pairs m d).0 ≡ Less) same (rising_by pairs h i (j - (i + 1)) d (omega (arith, l, k)))
+
+turned : (x y : Bytes) (o : Ordering) → bytes_cmp x y ≡ o → bytes_cmp y x ≡ ordering_reverse o
+turned x y o e = nat_list_cmp_total.antisymm y x ∙ ap ordering_reverse e
+
+-- the titles below a place are below what lies above it, and the other way round
+abbrev pub AllBelow : Pairs → Title → ℕ → Type 0
+AllBelow pairs title low = (i : ℕ) (d : Bytes × Bytes) → i < low → bytes_cmp (get_or pairs i d).0 title ≡ Less
+
+abbrev pub AllAbove : Pairs → Title → ℕ → Type 0
+AllAbove pairs title high = (i : ℕ) (d : Bytes × Bytes) → high ≤ i → i < length pairs → bytes_cmp (get_or pairs i d).0 title ≡ Greater
+
+below_by : (pairs : Pairs) (title : Title) (middle : ℕ) (p : Bytes × Bytes) → IsRising pairs → middle < length pairs → bytes_cmp (get_or pairs middle p).0 title ≡ Less
+    → (i : ℕ) (d : Bytes × Bytes) → (i ≡ middle) ⊎ (i < middle) → bytes_cmp (get_or pairs i d).0 title ≡ Less
+below_by pairs title middle p h l e i d (inl same) =
+    ap (λ k. bytes_cmp (get_or pairs k d).0 title) same ∙ ap (λ q. bytes_cmp q.0 title) (get_or_default pairs middle d p l) ∙ e
+below_by pairs title middle p h l e i d (inr before) =
+    nat_list_cmp_total.trans (get_or pairs i d).0 (get_or pairs middle d).0 title (rising pairs h i middle d before l)
+    (ap (λ q. bytes_cmp q.0 title) (get_or_default pairs middle d p l) ∙ e)
+
+pub below_on : (pairs : Pairs) (title : Title) (middle : ℕ) (p : Bytes × Bytes) → IsRising pairs → middle < length pairs → bytes_cmp (get_or pairs middle p).0 title ≡ Less
+    → AllBelow pairs title (middle + 1)
+below_on pairs title middle p h l e = λ i d k. below_by pairs title middle p h l e i d (eq-or-lt_of_le (let z : i ≤ middle = omega (arith, k) in z))
+
+above_by : (pairs : Pairs) (title : Title) (middle : ℕ) (p : Bytes × Bytes) → IsRising pairs → bytes_cmp (get_or pairs middle p).0 title ≡ Greater
+    → (i : ℕ) (d : Bytes × Bytes) → i < length pairs → (middle ≡ i) ⊎ (middle < i) → bytes_cmp (get_or pairs i d).0 title ≡ Greater
+above_by pairs title middle p h e i d l (inl same) =
+    let there : middle < length pairs = omega (arith, same, l) in
+    ap (λ k. bytes_cmp (get_or pairs k d).0 title) (sym same) ∙ ap (λ q. bytes_cmp q.0 title) (get_or_default pairs middle d p there) ∙ e
+above_by pairs title middle p h e i d l (inr after) =
+    let there : middle < length pairs = omega (arith, after, l) in
+    let down : bytes_cmp title (get_or pairs middle d).0 ≡ Less = turned (get_or pairs middle d).0 title Greater (ap (λ q. bytes_cmp q.0 title) (get_or_default pairs middle d p there) ∙ e) in
+    turned title (get_or pairs i d).0 Less (nat_list_cmp_total.trans title (get_or pairs middle d).0 (get_or pairs i d).0 down (rising pairs h middle i d after l))
+
+pub above_on : (pairs : Pairs) (title : Title) (middle : ℕ) (p : Bytes × Bytes) → IsRising pairs → bytes_cmp (get_or pairs middle p).0 title ≡ Greater
+    → AllAbove pairs title middle
+above_on pairs title middle p h e = λ i d k l. above_by pairs title middle p h e i d l (eq-or-lt_of_le k)
+
+-- the order of the page that was looked at
+pub at_middle : (pairs : Pairs) (title : Title) (middle : ℕ) (p : Bytes × Bytes) (seen : Bytes) (o : Ordering) → p ≡ get_or pairs middle p → seen ≡ p.0 → bytes_cmp seen title ≡ o
+    → bytes_cmp (get_or pairs middle p).0 title ≡ o
+at_middle pairs title middle p seen o e f g = ap (λ q. bytes_cmp q.0 title) (sym e) ∙ ap (λ x. bytes_cmp x title) (sym f) ∙ g
+
+-- the first page of a title
+differs : (x y : Bytes) (o : Ordering) → bytes_cmp x y ≡ o → bytes_eq x y ≡ is_eq o
+differs x y o e = texts_ties x y ∙ ap is_eq e
+
+first_by : (pairs : Pairs) (title : Title) (n : ℕ) (p : Bytes × Bytes) → n < length pairs → ((i : ℕ) → i < n → bytes_eq (get_or pairs i p).0 title ≡ false)
+    → bytes_eq (get_or pairs n p).0 title ≡ true → template_text pairs title ≡ Some (get_or pairs n p).1
+first_by [] title n p l h e = let no : ⊥ = omega (arith, l) in absurd no
+first_by (q ∷ pairs) title zero p l h e = rw e refl
+first_by (q ∷ pairs) title (suc n) p l h e =
+    rw (h 0 (omega arith)) (first_by pairs title n p (omega (arith, l)) (λ i k. h (suc i) (omega (arith, k))) e)
+
+pub found_there : (pairs : Pairs) (title : Title) (n : ℕ) (p : Bytes × Bytes) → IsRising pairs → n < length pairs → bytes_cmp (get_or pairs n p).0 title ≡ Equal
+    → template_text pairs title ≡ Some (get_or pairs n p).1
+found_there pairs title n p h l e =
+    first_by pairs title n p l
+    (λ i k. differs (get_or pairs i p).0 title Less
+    (turned title (get_or pairs i p).0 Greater
+    (sym (nat_list_cmp_total.congr (get_or pairs n p).0 title (get_or pairs i p).0 e) ∙ turned (get_or pairs i p).0 (get_or pairs n p).0 Less (rising pairs h i n p k l))))
+    (differs (get_or pairs n p).0 title Equal e)
+
+none_by : (pairs : Pairs) (title : Title) (d : Bytes × Bytes) → ((i : ℕ) → i < length pairs → bytes_eq (get_or pairs i d).0 title ≡ false) → template_text pairs title ≡ None
+none_by [] title d h = refl
+none_by (q ∷ pairs) title d h = rw (h 0 (omega arith)) (none_by pairs title d (λ i k. h (suc i) (omega (arith, k))))
+
+apart : (pairs : Pairs) (title : Title) (low high : ℕ) (d : Bytes × Bytes) → high ≤ low → AllBelow pairs title low → AllAbove pairs title high
+    → (i : ℕ) → i < length pairs → (high ≤ i) ⊎ (i < high) → bytes_eq (get_or pairs i d).0 title ≡ false
+apart pairs title low high d l below above i k (inl past) = differs (get_or pairs i d).0 title Greater (above i d past k)
+apart pairs title low high d l below above i k (inr before) = differs (get_or pairs i d).0 title Less (below i d (omega (arith, before, l)))
+
+pub none_between : (pairs : Pairs) (title : Title) (low high : ℕ) → high ≤ low → AllBelow pairs title low → AllAbove pairs title high → template_text pairs title ≡ None
+none_between pairs title low high l below above =
+    none_by pairs title ([], []) (λ i k. apart pairs title low high ([], []) l below above i k (at_most_or_past high i))

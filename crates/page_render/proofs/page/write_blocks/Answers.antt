@@ -1,0 +1,10 @@
+use Rattle.std.proofs.Common.{refl}
+use Rattle.std.proofs.lemmas.Str.{IsCharBoundary-start}
+use Rattle.page_render.proofs.page.write_blocks.Goals as goal
+
+pub loop-at-init : goal.loop-at-init
+loop-at-init c = record {
+  cut = λ l. IsCharBoundary-start c.args.text.now c.utf8.text;
+  bound = c.requires;
+  html = refl;
+}
