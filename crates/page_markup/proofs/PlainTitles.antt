@@ -136,20 +136,16 @@ plain_by : (name : Bytes) → 0 < length name → length name ≤ 246 → list_a
 plain_by [] l few h = let no : ⊥ = omega (arith, l) in absurd no
 plain_by (c ∷ s) l few h = plain_cons c s h few
 
-plain_named : (name : Bytes) → is_plain name ≡ true → template_named name ≡ Some (template_prefix ++ raised name)
-plain_named name h =
+with_first : (name : Bytes) → 0 < length name → raised name ≡ (if in_range 97 122 (get_or name 0 0) then get_or name 0 0 - 32 else get_or name 0 0) ∷ drop 1 name
+with_first [] l = let no : ⊥ = omega (arith, l) in absurd no
+with_first (c ∷ s) l = refl
+
+pub plain_some : (name : Bytes) → is_plain name ≡ true → 0 < length name
+plain_some name h = some_of (length name) (all_three (nat_lt 0 (length name)) (nat_le (length name) 246) (list_all is_word name) h).0
+
+pub plain_named : (name : Bytes) (first : ℕ) → is_plain name ≡ true → first ≡ (if in_range 97 122 (get_or name 0 0) then get_or name 0 0 - 32 else get_or name 0 0)
+    → template_named name ≡ Some (template_prefix ++ (first ∷ drop 1 name))
+plain_named name first h f =
     let parts = all_three (nat_lt 0 (length name)) (nat_le (length name) 246) (list_all is_word name) h in
     plain_by name (some_of (length name) parts.0) (few_of (length name) parts.1) parts.2
-
-filled_by : (name : Bytes) → 0 < length name → raised name ≡ (if in_range 97 122 (get_or name 0 0) then get_or name 0 0 - 32 else get_or name 0 0) ∷ drop 1 name
-filled_by [] l = let no : ⊥ = omega (arith, l) in absurd no
-filled_by (c ∷ s) l = refl
-
-filled : (name : Bytes) → is_plain name ≡ true → raised name ≡ (if in_range 97 122 (get_or name 0 0) then get_or name 0 0 - 32 else get_or name 0 0) ∷ drop 1 name
-filled name h = filled_by name (some_of (length name) (all_three (nat_lt 0 (length name)) (nat_le (length name) 246) (list_all is_word name) h).0)
-
--- as it is made
-pub plain_made : (name made rest : Bytes) (first : ℕ) → is_plain name ≡ true → first ≡ (if in_range 97 122 (get_or name 0 0) then get_or name 0 0 - 32 else get_or name 0 0) → rest ≡ drop 1 name
-    → made ≡ (template_prefix ++ (first ∷ [])) ++ rest → template_named name ≡ Some made
-plain_made name made rest first h f r m =
-    plain_named name h ∙ ap Some (ap (λ x. template_prefix ++ x) (filled name h) ∙ sym (m ∙ ap (λ c. (template_prefix ++ (c ∷ [])) ++ rest) f ∙ ap (λ x. template_prefix ++ ((if in_range 97 122 (get_or name 0 0) then get_or name 0 0 - 32 else get_or name 0 0) ∷ x)) r))
+    ∙ ap (λ x. Some (template_prefix ++ x)) (with_first name (some_of (length name) parts.0)) ∙ ap (λ c. Some (template_prefix ++ (c ∷ drop 1 name))) (sym f)

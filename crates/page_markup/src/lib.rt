@@ -29,7 +29,7 @@ use farm_base::Memory;
 pub use finder::find_in;
 pub use inline::{Inline, Known, Mark};
 pub use lines::{Line, line_at};
-pub use plain_names::plain_template;
+pub use plain_names::plain_first;
 pub use spaces::{OneLine, in_one_line, line_text, part};
 use std::alloc::Global;
 use wiki_titles::{Text, Title};

@@ -1,11 +1,9 @@
 // Names of letters and digits, which need not be read as titles are.
-ghost use Rattle.std.specs.Prelude.{◌≡◌, ◌-◌, ◌||◌, ℕ, List, Some, IfOk, IfSome, if◌then◌else◌};
+ghost use Rattle.std.specs.Prelude.{◌≡◌, ◌-◌, ◌||◌, ◌++◌, ◌∷◌, ◌<◌, length, drop, Some, IfSome, if◌then◌else◌};
 ghost use Rattle.std.specs.List.{list_all};
-ghost use Rattle.wiki_model.specs.Titles.{in_range};
+ghost use Rattle.wiki_model.specs.Titles.{in_range, template_prefix};
 ghost use Rattle.wiki_model.specs.Html.{template_named};
 ghost use Rattle.page_markup.specs.Names.{is_word, is_plain};
-
-use std::alloc::{AllocError, Global};
 
 fn is_word(byte: u8) -> bool
     ensures { result ≡ is_word byte }
@@ -35,19 +33,16 @@ fn raised(byte: u8) -> u8
     }
 }
 
-/// The bytes of the title of the template that the name gives, where the name is of ASCII letters and digits alone and has at most
-/// 246 of them; else nothing is said.
-#[tactic(auto, using(crate::proofs::PlainTitles::plain_made))]
-pub fn plain_template(alloc: Global, name: &[u8]) -> Result<Option<Vec<u8>>, AllocError>
-    ensures { IfOk result (λ found. IfSome found (λ title. template_named name.now ≡ Some title.items)) }
+/// The first letter behind `Template:` in the title of the template that the name gives, where the name is of ASCII letters and digits
+/// alone and has at most 246 of them; the other letters are the name's. Else nothing is said.
+#[tactic(auto, using(crate::proofs::PlainTitles::plain_named))]
+pub fn plain_first(name: &[u8]) -> Option<u8>
+    ensures title { IfSome result (λ first. template_named name.now ≡ Some (template_prefix ++ (first ∷ drop 1 name.now))) }
+    ensures some { IfSome result (λ first. 0 < length name.now) }
 {
-    if !is_plain(name) {
-        return Ok(None);
+    if is_plain(name) {
+        Some(raised(name[0]))
+    } else {
+        None
     }
-    let mut title = Vec::with_capacity(alloc, 9 + name.len())?;
-    title.extend_from_slice(b"Template:")?;
-    title.push(raised(name[0]))?;
-    let (_, rest) = name.split_at(1);
-    title.extend_from_slice(rest)?;
-    Ok(Some(title))
 }

@@ -1,19 +1,20 @@
 -- Where a template page stands.
-use Rattle.std.proofs.Common.{zero, suc, [], ◌∷◌, List, length, drop, ◌≡◌, ℕ, ◌≤◌, ◌<◌, ◌+◌, ◌-◌, Bool, true, false, refl, arith, ap, sym, ◌∙◌, Some, None, get_or, cond, subst, inl, inr, ◌⊎◌}
+use Rattle.std.proofs.Common.{zero, suc, [], ◌∷◌, ◌++◌, List, length, take, drop, ◌≡◌, ℕ, ◌≤◌, ◌<◌, ◌+◌, ◌-◌, Bool, true, false, refl, arith, ap, sym, ◌∙◌, Some, None, get_or, cond, nat_eq, nat_lt, subst, inl, inr, ◌⊎◌}
 use Rattle.std.specs.Prelude.{Option, option_map, option_and_then, if◌then◌else◌}
 use Rattle.std.specs.List.{slice_get}
 use Rattle.std.specs.Str.{bytes_eq}
 use Rattle.std.specs.BTreeMap.{BTreeMap, get, Updates, is_at}
-use Rattle.std.specs.Ordering.{is_eq, ordering_reverse}
+use Rattle.std.specs.Ordering.{is_eq, ordering_reverse, ordering_then, nat_cmp}
 use Rattle.std.specs.declared.cmp.Ordering.{Ordering}
 use Rattle.std.specs.declared.cmp.Ordering.TheVariants.{Less, Equal, Greater}
-use Rattle.std.specs.Cmp.Lexicographic.{texts_ties, nat_list_cmp_total}
-use Rattle.std.proofs.lemmas.List.{get_or_default}
+use Rattle.std.specs.Cmp.Lexicographic.{texts_ties, nat_list_cmp_total, same_text}
+use Rattle.std.proofs.lemmas.Bool.Decides.{nat_tests}
+use Rattle.std.proofs.lemmas.List.{get_or_default, take-append-drop}
 use Rattle.std.proofs.Math.Seq.{drop-cons}
 use Rattle.std.proofs.Math.Nat.{eq-or-lt_of_le}
 use Rattle.wiki_titles.specs.Order.{bytes_cmp}
-use Rattle.wiki_model.specs.Bytes.{Bytes}
-use Rattle.wiki_model.specs.Titles.{Title, Text}
+use Rattle.wiki_model.specs.Bytes.{Bytes, begins}
+use Rattle.wiki_model.specs.Titles.{Title, Text, template_prefix}
 use Rattle.wiki_model.specs.Html.{Templates, template_named}
 use Rattle.page_markup.proofs.Taken.{at_most_or_past}
 use Rattle.page_render.specs.Templates.{Pairs, IsRising, indexed, first_place, text_named}
@@ -91,6 +92,39 @@ rising pairs h i j d l k =
 
 turned : (x y : Bytes) (o : Ordering) → bytes_cmp x y ≡ o → bytes_cmp y x ≡ ordering_reverse o
 turned x y o e = nat_list_cmp_total.antisymm y x ∙ ap ordering_reverse e
+
+-- the parts of a title in order
+nat_less : (x y : ℕ) → x < y → nat_cmp x y ≡ Less
+nat_less x y h = rw (let z : nat_lt x y ≡ true = grind (arith, nat_tests) in z) refl
+
+nat_more : (x y : ℕ) → y < x → nat_cmp x y ≡ Greater
+nat_more x y h = rw (let z : nat_lt x y ≡ false = grind (arith, nat_tests) in z, let w : nat_eq x y ≡ false = grind (arith, nat_tests) in w) refl
+
+nat_same : (x y : ℕ) → x ≤ y → y ≤ x → nat_cmp x y ≡ Equal
+nat_same x y h k = rw (let z : nat_lt x y ≡ false = grind (arith, nat_tests) in z, let w : nat_eq x y ≡ true = grind (arith, nat_tests) in w) refl
+
+pub nothing_behind : (behind rest : Bytes) (first : ℕ) → length behind ≡ 0 → bytes_cmp behind (first ∷ rest) ≡ Less
+nothing_behind [] rest first e = refl
+nothing_behind (c ∷ behind) rest first e = let no : ⊥ = omega (arith, e) in absurd no
+
+pub first_below : (behind rest : Bytes) (first : ℕ) → 0 < length behind → get_or behind 0 0 < first → bytes_cmp behind (first ∷ rest) ≡ Less
+first_below [] rest first l h = let no : ⊥ = omega (arith, l) in absurd no
+first_below (c ∷ behind) rest first l h = ap (λ o. ordering_then o (bytes_cmp behind rest)) (nat_less c first h)
+
+pub first_above : (behind rest : Bytes) (first : ℕ) → 0 < length behind → first < get_or behind 0 0 → bytes_cmp behind (first ∷ rest) ≡ Greater
+first_above [] rest first l h = let no : ⊥ = omega (arith, l) in absurd no
+first_above (c ∷ behind) rest first l h = ap (λ o. ordering_then o (bytes_cmp behind rest)) (nat_more c first h)
+
+pub first_alike : (behind rest : Bytes) (first : ℕ) → 0 < length behind → first ≤ get_or behind 0 0 → get_or behind 0 0 ≤ first
+    → bytes_cmp behind (first ∷ rest) ≡ bytes_cmp (drop 1 behind) rest
+first_alike [] rest first l h k = let no : ⊥ = omega (arith, l) in absurd no
+first_alike (c ∷ behind) rest first l h k = ap (λ o. ordering_then o (bytes_cmp behind rest)) (nat_same c first k h)
+
+pub behind_prefix : (title rest : Bytes) (first : ℕ) → begins template_prefix title ≡ true → bytes_cmp (drop 9 title) (first ∷ rest) ≡ bytes_cmp title (template_prefix ++ (first ∷ rest))
+behind_prefix title rest first e =
+    let front : template_prefix ≡ take 9 title = same_text template_prefix (take 9 title) (sym e) in
+    let whole : title ≡ template_prefix ++ drop 9 title = sym (take-append-drop 9 title) ∙ ap (λ x. x ++ drop 9 title) (sym front) in
+    sym (ap (λ t. bytes_cmp t (template_prefix ++ (first ∷ rest))) whole)
 
 -- the titles below a place are below what lies above it, and the other way round
 abbrev pub AllBelow : Pairs → Title → ℕ → Type 0

@@ -1,8 +1,10 @@
 // The template pages, found by what a text names between braces.
-ghost use Rattle.std.specs.Prelude.{◌≡◌, ◌≤◌, ℕ, List, length, option_copied, IfOk, IsTrue, Some};
+ghost use Rattle.std.specs.Prelude.{◌≡◌, ◌≤◌, ◌<◌, ◌-◌, ◌∷◌, ℕ, List, length, get_or, option_copied, IfOk, IsTrue, Some, true};
 ghost use Rattle.std.specs.BTreeMap.{get, Updates};
+ghost use Rattle.wiki_model.specs.Bytes.{begins};
+ghost use Rattle.wiki_model.specs.Titles.{template_prefix};
 ghost use Rattle.wiki_titles.specs.Order.{bytes_cmp};
-ghost use Rattle.page_render.specs.Templates.{IsIndexOf, IsRising, first_place, indexed, text_named};
+ghost use Rattle.page_render.specs.Templates.{AreInOrder, IsIndexOf, first_place, indexed, text_named, title_wanted};
 ghost use Rattle.page_render.specs.Use.{template_text};
 ghost use Rattle.std.specs.declared.cmp.Ordering.TheVariants.{Less};
 
@@ -15,7 +17,7 @@ use wiki_titles::{Text, Title};
 /// How a page is found by its title.
 #[derive(Drop)]
 enum Index {
-    /// The titles rise, so the list is halved.
+    /// All are titles of templates and rise, so the list is halved.
     InOrder,
     /// The place of the first page of each title.
     ByTitle(BTreeMap<Title, usize>),
@@ -73,16 +75,32 @@ fn is_below(one: &Title, other: &Title) -> bool
     }
 }
 
-/// Whether each title is below the next.
-fn are_rising(templates: &[(Title, Text)]) -> bool
-    ensures { IsTrue result → IsRising templates.now }
+fn is_template(title: &Title) -> bool
+    ensures { result ≡ begins template_prefix title.now }
 {
-    let mut at = 1;
-    while at < templates.len() {
-        if !is_below(&templates[at - 1].0, &templates[at].0) {
+    title.text().as_bytes().starts_with(b"Template:")
+}
+
+/// Whether the title at the place is a template's and is above the one before it.
+fn goes_on(templates: &[(Title, Text)], at: usize) -> bool
+    requires { at < length templates.now }
+    ensures template { IsTrue result → (d : List ℕ × List ℕ) → begins template_prefix (get_or templates.now at d).0 ≡ true }
+    ensures above { IsTrue result → 0 < at → (d : List ℕ × List ℕ) → bytes_cmp (get_or templates.now (at - 1) d).0 (get_or templates.now at d).0 ≡ Less }
+{
+    if !is_template(&templates[at].0) {
+        return false;
+    }
+    at == 0 || is_below(&templates[at - 1].0, &templates[at].0)
+}
+
+/// Whether all are titles of templates, each below the next.
+fn are_in_order(templates: &[(Title, Text)]) -> bool
+    ensures { IsTrue result → AreInOrder templates.now }
+{
+    for at in 0..templates.len() {
+        if !goes_on(templates, at) {
             return false;
         }
-        at += 1;
     }
     true
 }
@@ -114,24 +132,64 @@ fn places_of(
 fn index_of(alloc: Global, templates: &[(Title, Text)]) -> Result<Index, AllocError>
     ensures { IfOk result (λ index. IsIndexOf index templates.now) }
 {
-    if are_rising(templates) {
+    if are_in_order(templates) {
         Ok(Index::InOrder)
     } else {
         Ok(Index::ByTitle(places_of(alloc, templates)?))
     }
 }
 
-/// The text of the page of this title, where the titles rise.
-fn find_rising<'a>(templates: &'a [(Title, Text)], title: &[u8]) -> Option<&'a Text>
-    requires { IsRising templates.now }
-    ensures { option_copied result ≡ template_text templates.now title.now }
+/// A title that is looked for: its bytes, or the two parts of what stands behind `Template:` in it.
+#[derive(Clone, Copy, Debug)]
+enum Wanted<'n> {
+    Whole(&'n [u8]),
+    Behind { first: u8, rest: &'n [u8] },
+}
+
+/// How what stands behind `Template:` in a title compares with such a text in two parts.
+#[tactic(auto, using(crate::proofs::Lookups::nothing_behind, crate::proofs::Lookups::first_below, crate::proofs::Lookups::first_above, crate::proofs::Lookups::first_alike))]
+fn order_behind(behind: &[u8], first: u8, rest: &[u8]) -> Ordering
+    ensures { result ≡ bytes_cmp behind.now (first ∷ rest.now) }
+{
+    if behind.is_empty() {
+        return Ordering::Less;
+    }
+    let letter = behind[0];
+    if letter < first {
+        return Ordering::Less;
+    }
+    if first < letter {
+        return Ordering::Greater;
+    }
+    let (_, others) = behind.split_at(1);
+    order_of(others, rest)
+}
+
+#[tactic(auto, using(crate::proofs::Lookups::behind_prefix))]
+fn order_of_wanted(title: &[u8], wanted: Wanted<'_>) -> Ordering
+    requires { begins template_prefix title.now ≡ true }
+    ensures { result ≡ bytes_cmp title.now (title_wanted wanted.entry) }
+{
+    match wanted {
+        Wanted::Whole(other) => order_of(title, other),
+        Wanted::Behind { first, rest } => {
+            let (_, behind) = title.split_at(9);
+            order_behind(behind, first, rest)
+        }
+    }
+}
+
+/// The text of the page of this title, in a list that is in order.
+fn find_halving<'a>(templates: &'a [(Title, Text)], wanted: Wanted<'_>) -> Option<&'a Text>
+    requires { AreInOrder templates.now }
+    ensures { option_copied result ≡ template_text templates.now (title_wanted wanted.entry) }
 {
     let mut low = 0;
     let mut high = templates.len();
     while low < high {
         let middle = low + (high - low) / 2;
         let page = &templates[middle];
-        match order_of(page.0.text().as_bytes(), title) {
+        match order_of_wanted(page.0.text().as_bytes(), wanted) {
             Ordering::Less => low = middle + 1,
             Ordering::Equal => return Some(&page.1),
             Ordering::Greater => high = middle,
@@ -157,21 +215,23 @@ fn find_place<'a>(
     }
 }
 
-/// The text of the page that is named, where the titles rise.
+/// The text of the page that is named, in a list that is in order.
 fn find_in_order<'a>(
     alloc: Global,
     templates: &'a [(Title, Text)],
     name: &str,
 ) -> Result<Option<&'a Text>, AllocError>
-    requires rising { IsRising templates.now }
+    requires order { AreInOrder templates.now }
     requires short { length name.now ≤ 512 }
     ensures { IfOk result (λ found. option_copied found ≡ text_named (template_text templates.now) name.now) }
 {
-    if let Some(title) = page_markup::plain_template(alloc, name.as_bytes())? {
-        return Ok(find_rising(templates, title.as_slice()));
+    let bytes = name.as_bytes();
+    if let Some(first) = page_markup::plain_first(bytes) {
+        let (_, rest) = bytes.split_at(1);
+        return Ok(find_halving(templates, Wanted::Behind { first, rest }));
     }
     match page_markup::template_title(alloc, name)? {
-        Some(title) => Ok(find_rising(templates, title.text().as_bytes())),
+        Some(title) => Ok(find_halving(templates, Wanted::Whole(title.text().as_bytes()))),
         None => Ok(None),
     }
 }
