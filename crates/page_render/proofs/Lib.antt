@@ -5,4 +5,3 @@ pub mod Lookups
 pub mod Picks
 pub mod Runs
 pub mod Steps
-pub mod Taken

@@ -12,7 +12,7 @@ use Rattle.wiki_model.specs.Html.{enclosed, cut_after_one, bracketed, if_short, 
 use Rattle.page_markup.specs.Marks.{distance}
 use Rattle.page_markup.specs.Names.{listed, name_here, names_from}
 use Rattle.page_markup.proofs.Places.{distance_within, cut_none, cut_some}
-use Rattle.page_render.proofs.Taken.{clip, bracketed_front, at_most_or_past}
+use Rattle.page_markup.proofs.Taken.{clip, bracketed_front, at_most_or_past}
 
 abbrev pub named_in : Option (Bytes × Bytes) → List Title
 named_in found = listed (option_and_then (λ p. template_named p.0) found)
