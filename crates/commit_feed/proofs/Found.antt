@@ -52,12 +52,12 @@ page_at h k title n is =
 
 -- there are no more commits than entries
 
-commits_few : (n : ℕ) (h : List Entry) → length (commits_from n h) ≤ length h
+pub commits_few : (n : ℕ) (h : List Entry) → length (commits_from n h) ≤ length h
 commits_few n [] = omega arith
 commits_few n (Beat s ∷ h) = let rest = commits_few (n + 1) h in omega (arith, rest)
 commits_few n (Committed c ∷ h) = let rest = commits_few (n + 1) h in omega (arith, rest)
 
-filter_few : (p : Numbered → Bool) (h : List Entry) → length (filter p (commits h)) ≤ length h
+pub filter_few : (p : Numbered → Bool) (h : List Entry) → length (filter p (commits h)) ≤ length h
 filter_few p h =
     let all = commits_few 1 h in
     let passing = length-filter p (commits h) in

@@ -1,25 +1,12 @@
 -- What a history has is within bounds where its length is.
-use Rattle.std.proofs.Common.{◌≡◌, ℕ, zero, suc, ◌+◌, ◌<◌, ◌≤◌, ◌^◌, Bool, List, [], ◌∷◌, length, filter, take, Some, None, Option, option_map, unwrap_or, refl, ap, arith}
+use Rattle.std.proofs.Common.{◌≡◌, ℕ, zero, suc, ◌<◌, ◌≤◌, ◌^◌, List, [], ◌∷◌, length, take, Some, None, Option, option_map, unwrap_or, refl, ap, arith}
 use Rattle.std.specs.Prelude.{bytes_eq, slice_get, IfSome}
-use Rattle.std.proofs.lemmas.List.Sums.{length-filter, count_by-le-length}
 use Rattle.std.proofs.lemmas.Option.{slice_get_within}
 use Rattle.wiki_model.specs.Titles.{Title, Client, Token}
-use Rattle.wiki_model.specs.History.{Entry, Beat, Committed, Numbered, commits_from, commits, commit_in, entry_at, page, number_of, commit_with_token, own, stamp_at, stamp_of, IsHistory}
-use Rattle.commit_feed.proofs.Found.{with_token_at, page_at, few_by}
+use Rattle.wiki_model.specs.History.{Entry, Beat, Committed, Numbered, commit_in, entry_at, page, number_of, commit_with_token, own, stamp_at, stamp_of, IsHistory}
+use Rattle.commit_feed.proofs.Found.{with_token_at, page_at, few_by, filter_few}
 use Rattle.revision_keeper.specs.Bounds.{IsSmall, AreSmall, writes_of}
 use Rattle.revision_keeper.proofs.Follows.{own_within}
-
-commits_few : (n : ℕ) (h : List Entry) → length (commits_from n h) ≤ length h
-commits_few n [] = omega arith
-commits_few n (Beat s ∷ h) = let rest = commits_few (n + 1) h in omega (arith, rest)
-commits_few n (Committed c ∷ h) = let rest = commits_few (n + 1) h in omega (arith, rest)
-
-filter_few : (p : Numbered → Bool) (h : List Entry) → length (filter p (commits h)) ≤ length h
-filter_few p h =
-    let all = commits_few 1 h in
-    let passing = length-filter p (commits h) in
-    let some = count_by-le-length p (commits h) in
-    omega (arith, all, passing, some)
 
 take_short : {X : Type 0} (k : ℕ) (xs : List X) → length (take k xs) ≤ k
 take_short zero xs = omega arith
