@@ -54,12 +54,7 @@ fn a_page_includes_262144_bytes(rt: HostRuntime) -> Result<(), Memory> {
         (
             "{{big}}{{big}}{{big}}{{nearly}}",
             2,
-            &[
-                ("<p>", 1),
-                ("b", 196_608),
-                ("n", 65_528),
-                ("1</p>\n", 1),
-            ],
+            &[("<p>", 1), ("b", 196_608), ("n", 65_528), ("1</p>\n", 1)],
         ),
     ];
     let alloc = rt.alloc();

@@ -28,8 +28,14 @@ fn both_markups_agree_without_nesting(rt: HostRuntime) -> Result<(), Memory> {
         ("=  =", "<p>=  =</p>\n"),
         ("''''' ", "<p><i>'</i> </p>\n"),
         ("''a'''b''", "<p><i>a</i>'b''</p>\n"),
-        ("[[a]] [[A|]] [[|b]]", "<p><a href=\"/wiki/A\">a</a> <a href=\"/wiki/A\">A</a> [[|b]]</p>\n"),
-        ("a\n*b\n= c =\nd", "<p>a</p>\n<ul>\n<li>b</li>\n</ul>\n<h1>c</h1>\n<p>d</p>\n"),
+        (
+            "[[a]] [[A|]] [[|b]]",
+            "<p><a href=\"/wiki/A\">a</a> <a href=\"/wiki/A\">A</a> [[|b]]</p>\n",
+        ),
+        (
+            "a\n*b\n= c =\nd",
+            "<p>a</p>\n<ul>\n<li>b</li>\n</ul>\n<h1>c</h1>\n<p>d</p>\n",
+        ),
     ];
     let alloc = rt.alloc();
     for (text, blocks) in cases {
@@ -47,18 +53,19 @@ fn both_markups_agree_without_nesting(rt: HostRuntime) -> Result<(), Memory> {
     Ok(())
 }
 
+const CHAIN: [(&str, &str); 8] = [
+    ("Template:X", "a {{y}} b"),
+    ("Template:Y", "yes"),
+    ("Template:One", "1{{two}}"),
+    ("Template:Two", "2{{three}}"),
+    ("Template:Three", "3\n{{four}}"),
+    ("Template:Four", "4{{five}}"),
+    ("Template:Five", "5"),
+    ("Template:Itself", "<{{itself}}>"),
+];
+
 #[test]
 fn templates_nest_in_the_second_markup(rt: HostRuntime) -> Result<(), Memory> {
-    let chain = [
-        ("Template:X", "a {{y}} b"),
-        ("Template:Y", "yes"),
-        ("Template:One", "1{{two}}"),
-        ("Template:Two", "2{{three}}"),
-        ("Template:Three", "3\n{{four}}"),
-        ("Template:Four", "4{{five}}"),
-        ("Template:Five", "5"),
-        ("Template:Itself", "<{{itself}}>"),
-    ];
     // the text, the markup, and the blocks
     let cases = [
         ("{{x}}", 1, "<p>a {{y}} b</p>\n"),
@@ -81,7 +88,7 @@ fn templates_nest_in_the_second_markup(rt: HostRuntime) -> Result<(), Memory> {
     for (text, markup, blocks) in cases {
         let case = Case {
             text,
-            templates: &chain,
+            templates: &CHAIN,
             notice: None,
             markup,
         };
@@ -97,7 +104,10 @@ fn a_notice_stands_before_the_heading(rt: HostRuntime) -> Result<(), Memory> {
     let cases = [
         ("'''n'''", "<div><b>n</b></div>\n"),
         ("", "<div></div>\n"),
-        ("== a ==\n* [[b]]", "<div>== a == * <a href=\"/wiki/B\">b</a></div>\n"),
+        (
+            "== a ==\n* [[b]]",
+            "<div>== a == * <a href=\"/wiki/B\">b</a></div>\n",
+        ),
         ("{{x}}", "<div>{{x}}</div>\n"),
     ];
     let alloc = rt.alloc();
@@ -118,13 +128,12 @@ fn a_notice_stands_before_the_heading(rt: HostRuntime) -> Result<(), Memory> {
 
 #[test]
 fn pages_have_their_lengths(rt: HostRuntime) -> Result<(), Memory> {
-    let templates = [("Template:X", "a {{y}} b"), ("Template:Y", "yes")];
     // the text, the markup, and how many bytes the page has
     let cases = [("", 1, 44), ("", 2, 44), ("{{x}}", 1, 61), ("{{x}}", 2, 59)];
     for (text, markup, length) in cases {
         let case = Case {
             text,
-            templates: &templates,
+            templates: &CHAIN,
             notice: None,
             markup,
         };

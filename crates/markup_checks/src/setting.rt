@@ -53,8 +53,9 @@ pub fn bytes_of(alloc: Global, case: &Case<'_>) -> Result<Vec<u8>, Memory> {
 
 // The page that has these blocks, and this line of a notice.
 pub fn wanted_of(alloc: Global, notice: &str, blocks: &str) -> Result<String, Memory> {
-    format!(in alloc; "<!DOCTYPE html>\n<title>A</title>\n{notice}<h1>A</h1>\n{blocks}")
-        .map_err(|_| Memory)
+    format!(in alloc; "<!DOCTYPE html>\n<title>A</title>\n{notice}<h1>A</h1>\n{blocks}").map_err(
+        |_| Memory,
+    )
 }
 
 // Pieces one after another, each as often as is told.

@@ -2,6 +2,7 @@
 use crate::setting::text_of;
 use farm_base::Memory;
 use page_markup::{Block, BlockKind, Mark};
+use std::alloc::Global;
 use wiki_titles::Title;
 
 fn same_titles(titles: &[Title], wanted: &[&str]) -> bool {
@@ -26,56 +27,71 @@ fn templates_are_named_once_in_order(rt: HostRuntime) -> Result<(), Memory> {
         ("{{x|1}}", &[], &[]),
         ("{{a\nb}}", &[], &["Template:A b"]),
         ("{{{x}}}", &["Template:X"], &["Template:X"]),
-        ("'''{{b}}''' {{ a_}}", &["Template:A", "Template:B"], &["Template:A", "Template:B"]),
+        (
+            "'''{{b}}''' {{ a_}}",
+            &["Template:A", "Template:B"],
+            &["Template:A", "Template:B"],
+        ),
         ("{{x}", &[], &[]),
-        ("{{}}{{ }}{{talk:x}}", &["Template:Talk:x"], &["Template:Talk:x"]),
+        (
+            "{{}}{{ }}{{talk:x}}",
+            &["Template:Talk:x"],
+            &["Template:Talk:x"],
+        ),
     ];
     let alloc = rt.alloc();
     for (text, names, spaced) in cases {
         let text = text_of(alloc, text)?;
         assert!(rt; same_titles(page_markup::template_names(alloc, &text)?.as_slice(), names));
-        assert!(rt; same_titles(page_markup::template_names_spaced(alloc, &text)?.as_slice(), spaced));
+        assert!(rt;
+            same_titles(
+                page_markup::template_names_spaced(alloc, &text)?.as_slice(),
+                spaced
+            )
+        );
     }
     Ok(())
 }
 
-// A mark's place, rule, closing place and title; no title is written as no text.
-type Told<'a> = (u32, u8, u32, &'a str);
-
-fn is_told(mark: &Mark, told: &Told<'_>) -> bool {
-    let (place, rule, close, title) = *told;
-    let titled = match &mark.title {
-        Some(named) => named.text() == title,
-        None => title.is_empty(),
+// A mark as its place, its rule, its closing place and its title, if it has one.
+fn line_of(alloc: Global, mark: &Mark) -> Result<String, Memory> {
+    let (place, rule, close) = (mark.place, mark.rule, mark.close);
+    let title = match &mark.title {
+        Some(title) => title.text(),
+        None => "-",
     };
-    titled && mark.place == place && mark.rule == rule && mark.close == close
+    format!(in alloc; "{place} {rule} {close} {title}\n").map_err(|_| Memory)
 }
 
-fn are_told(marks: &[Mark], told: &[Told<'_>]) -> bool {
-    marks.len() == told.len() && marks.iter().zip(told.iter()).all(|(m, t)| is_told(m, t))
+fn lines_of(alloc: Global, marks: &[Mark]) -> Result<String, Memory> {
+    let mut lines = String::new(alloc);
+    for mark in marks {
+        let line = line_of(alloc, mark)?;
+        lines.push_str(line.as_str()).map_err(|_| Memory)?;
+    }
+    Ok(lines)
 }
 
 #[test]
 fn marks_are_told_by_place_and_rule(rt: HostRuntime) -> Result<(), Memory> {
-    let cases: [(&str, &[Told<'_>]); 8] = [
-        ("", &[]),
-        ("it''s", &[]),
-        ("'''b'''", &[(0, 2, 4, ""), (0, 3, 4, ""), (1, 3, 4, "")]),
-        (
-            "''''''",
-            &[(0, 3, 3, ""), (1, 3, 4, "")],
-        ),
-        ("[[c|see]]", &[(0, 4, 7, "C")]),
-        ("[[a#b]]", &[]),
-        ("[[{{x}}]]", &[(2, 5, 5, "Template:X")]),
-        ("[[a]]]] {{b}}", &[(0, 4, 3, "A"), (8, 5, 11, "Template:B")]),
+    // the text, and its marks
+    let cases = [
+        ("", ""),
+        ("it''s", ""),
+        ("'''b'''", "0 2 4 -\n0 3 4 -\n1 3 4 -\n"),
+        ("''''''", "0 3 3 -\n1 3 4 -\n"),
+        ("[[c|see]]", "0 4 7 C\n"),
+        ("[[a#b]]", ""),
+        ("[[{{x}}]]", "2 5 5 Template:X\n"),
+        ("[[a]]]] {{b}}", "0 4 3 A\n8 5 11 Template:B\n"),
     ];
     let alloc = rt.alloc();
-    for (text, told) in cases {
+    for (text, wanted) in cases {
         let text = text_of(alloc, text)?;
         let read = page_markup::read_inline(alloc, text.text())?;
+        let lines = lines_of(alloc, read.marks.as_slice())?;
         assert_eq!(rt; read.text.as_str(), text.text());
-        assert!(rt; are_told(read.marks.as_slice(), told));
+        assert_eq!(rt; lines.as_str(), wanted);
     }
     Ok(())
 }
