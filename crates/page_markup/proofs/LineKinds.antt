@@ -134,11 +134,11 @@ no_level line e =
 pub all_signs : (line : Bytes) → list_all (λ c. c == 61) line ≡ true → is_heading line ≡ false
 all_signs line e = ap (λ b. heading_by (nat_lt 0 (heading_level line)) b (middle_empty line)) e ∙ none_second (nat_lt 0 (heading_level line)) (middle_empty line)
 
-empty_of : (t : Bytes) → length t ≡ 0 → is_empty t ≡ true
+pub empty_of : (t : Bytes) → length t ≡ 0 → is_empty t ≡ true
 empty_of [] e = refl
 empty_of (c ∷ t) e = let no : ⊥ = omega (arith, e) in absurd no
 
-filled_of : (t : Bytes) → 0 < length t → is_empty t ≡ false
+pub filled_of : (t : Bytes) → 0 < length t → is_empty t ≡ false
 filled_of [] h = let no : ⊥ = omega (arith, h) in absurd no
 filled_of (c ∷ t) h = refl
 

@@ -1,5 +1,5 @@
 -- What is shown for a link.
-use Rattle.std.proofs.Common.{[], ◌∷◌, ◌++◌, length, take, drop, ◌≡◌, ℕ, ◌≤◌, ◌<◌, ◌+◌, true, false, refl, arith, ap, sym, ◌∙◌, inl, inr, ◌⊎◌, append_assoc}
+use Rattle.std.proofs.Common.{◌++◌, length, take, drop, ◌≡◌, ℕ, ◌≤◌, ◌<◌, refl, arith, ap, sym, ◌∙◌, inl, inr, ◌⊎◌, append_assoc}
 use Rattle.std.specs.Prelude.{codes, if◌then◌else◌}
 use Rattle.std.proofs.lemmas.List.{length-drop}
 use Rattle.std.proofs.Math.Seq.{take-length}
@@ -7,15 +7,8 @@ use Rattle.std.proofs.Math.Nat.{eq-or-lt_of_le}
 use Rattle.wiki_model.specs.Bytes.{Bytes, is_empty}
 use Rattle.wiki_model.specs.Html.{target_and_label}
 use Rattle.page_markup.specs.Marks.{distance, next_place}
+use Rattle.page_markup.proofs.LineKinds.{empty_of, filled_of}
 use Rattle.page_markup.proofs.Places.{distance_within, cut_none, cut_some}
-
-empty_of : (t : Bytes) → length t ≡ 0 → is_empty t ≡ true
-empty_of [] e = refl
-empty_of (c ∷ t) e = let no : ⊥ = omega (arith, e) in absurd no
-
-filled_of : (t : Bytes) → 0 < length t → is_empty t ≡ false
-filled_of [] h = let no : ⊥ = omega (arith, h) in absurd no
-filled_of (c ∷ t) h = refl
 
 label_cut : (s : Bytes) → distance (codes "|") s < length s
     → (target_and_label s).1 ≡ (if is_empty (drop 1 (drop (distance (codes "|") s) s)) then take (distance (codes "|") s) s else drop 1 (drop (distance (codes "|") s) s))
