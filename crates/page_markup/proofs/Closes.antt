@@ -1,6 +1,6 @@
 -- Where a mark closes within a part of a text.
-use Rattle.std.proofs.Common.{suc, [], ◌∷◌, length, take, drop, ◌≡◌, ℕ, ◌≤◌, ◌<◌, ◌+◌, ◌-◌, true, false, refl, arith, ap, sym, ◌∙◌, Some, None, get_or, inl, inr, ◌⊎◌}
-use Rattle.std.specs.Prelude.{Option, option_and_then, codes}
+use Rattle.std.proofs.Common.{suc, ◌∷◌, length, take, drop, ◌≡◌, ℕ, ◌≤◌, ◌<◌, ◌+◌, ◌-◌, true, false, refl, arith, ap, sym, ◌∙◌, Some, None, get_or, inl, inr, ◌⊎◌}
+use Rattle.std.specs.Prelude.{option_and_then}
 use Rattle.std.proofs.lemmas.List.{length-drop}
 use Rattle.std.proofs.Math.Seq.{drop-cons}
 use Rattle.std.proofs.Math.Nat.{eq-or-lt_of_le}
@@ -10,7 +10,7 @@ use Rattle.page_markup.specs.declared.brackets.Names.{Names}
 use Rattle.page_markup.specs.declared.brackets.Names.TheVariants.{Links, Templates}
 use Rattle.page_markup.specs.Marks.{distance, next_place, opening_of, closing_of}
 use Rattle.page_markup.specs.Within.{between}
-use Rattle.page_markup.proofs.Places.{drop_drop, distance_within, enclosed_some, enclosed_none, brackets_at, bracketed_none, bracketed_long, inner_at, length_taken}
+use Rattle.page_markup.proofs.Places.{drop_drop, distance_within, enclosed_some, enclosed_none, brackets_at, bracketed_none, bracketed_long, length_taken}
 use Rattle.page_markup.proofs.Cuts.{two_long}
 use Rattle.page_markup.proofs.Taken.{clip, clip_kept, clip_lost, clip_never, begins_not, at_most_or_past, enclosed_front, bracketed_front}
 

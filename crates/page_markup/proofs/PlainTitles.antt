@@ -1,10 +1,10 @@
 -- The title of a template whose name is of letters and digits.
-use Rattle.std.proofs.Common.{zero, suc, [], ◌∷◌, ◌++◌, List, length, drop, ◌≡◌, ℕ, ◌≤◌, ◌<◌, ◌+◌, ◌-◌, Bool, true, false, refl, arith, ap, sym, ◌∙◌, Some, None, Ok, nat_eq, nat_lt, nat_le, get_or, cond, append_assoc}
-use Rattle.std.specs.Prelude.{not, filter, ◌==◌, ◌&&◌, ◌||◌, codes, position, option_and_then, if◌then◌else◌}
-use Rattle.std.specs.List.{join_with_byte, list_all, list_any, position_or_len}
+use Rattle.std.proofs.Common.{suc, [], ◌∷◌, ◌++◌, List, length, drop, ◌≡◌, ℕ, ◌≤◌, ◌<◌, ◌+◌, ◌-◌, Bool, true, false, refl, arith, ap, sym, ◌∙◌, Some, None, nat_eq, nat_lt, nat_le, get_or, cond}
+use Rattle.std.specs.Prelude.{not, filter, ◌&&◌, position, option_and_then, if◌then◌else◌}
+use Rattle.std.specs.List.{join_with_byte, list_all, position_or_len}
 use Rattle.std.proofs.lemmas.Bool.Decides.{nat_tests}
-use Rattle.wiki_model.specs.Bytes.{Bytes, space, is_empty, pieces, in_first, replaced, skip_spaces, begins}
-use Rattle.wiki_model.specs.Titles.{title_of, title_text, with_class, has_no_name, good_characters, is_bad, in_range, raised, template_prefix, message_prefix}
+use Rattle.wiki_model.specs.Bytes.{Bytes, space, is_empty, pieces, in_first, replaced, skip_spaces}
+use Rattle.wiki_model.specs.Titles.{title_of, title_text, with_class, has_no_name, is_bad, in_range, raised, template_prefix}
 use Rattle.wiki_model.specs.Html.{ok_of, if_template, template_named}
 use Rattle.page_markup.specs.Names.{is_word, is_plain}
 

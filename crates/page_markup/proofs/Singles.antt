@@ -1,5 +1,5 @@
 -- Marks of one byte, and the first byte of others.
-use Rattle.std.proofs.Common.{zero, suc, [], ◌∷◌, length, drop, ◌≡◌, ℕ, ◌≤◌, ◌<◌, ◌+◌, Bool, true, false, refl, arith, ap, sym, ◌∙◌, nat_eq, get_or}
+use Rattle.std.proofs.Common.{suc, [], ◌∷◌, length, drop, ◌≡◌, ℕ, ◌<◌, ◌+◌, Bool, true, false, refl, arith, ap, sym, ◌∙◌, nat_eq, get_or}
 use Rattle.std.proofs.lemmas.Bool.Decides.{nat_tests}
 use Rattle.std.proofs.lemmas.List.{length-drop}
 use Rattle.std.proofs.Math.Seq.{drop-cons}

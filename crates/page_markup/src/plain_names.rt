@@ -1,5 +1,5 @@
 // Names of letters and digits, which need not be read as titles are.
-ghost use Rattle.std.specs.Prelude.{◌≡◌, ◌-◌, ◌||◌, ◌++◌, ◌∷◌, ◌<◌, length, drop, Some, IfSome, if◌then◌else◌};
+ghost use Rattle.std.specs.Prelude.{◌≡◌, ◌-◌, ◌||◌, ◌++◌, ◌∷◌, ◌<◌, length, drop, Some, IfSome, MatchOption, true, false, if◌then◌else◌};
 ghost use Rattle.std.specs.List.{list_all};
 ghost use Rattle.wiki_model.specs.Titles.{in_range, template_prefix};
 ghost use Rattle.wiki_model.specs.Html.{template_named};
@@ -34,11 +34,12 @@ fn raised(byte: u8) -> u8
 }
 
 /// The first letter behind `Template:` in the title of the template that the name gives, where the name is of ASCII letters and digits
-/// alone and has at most 246 of them; the other letters are the name's. Else nothing is said.
+/// alone and has at most 246 of them; the other letters are the name's. None of any other name.
 #[tactic(auto, using(crate::proofs::PlainTitles::plain_named))]
 pub fn plain_first(name: &[u8]) -> Option<u8>
     ensures title { IfSome result (λ first. template_named name.now ≡ Some (template_prefix ++ (first ∷ drop 1 name.now))) }
     ensures some { IfSome result (λ first. 0 < length name.now) }
+    ensures plain { MatchOption result (is_plain name.now ≡ false) (λ _. is_plain name.now ≡ true) }
 {
     if is_plain(name) {
         Some(raised(name[0]))

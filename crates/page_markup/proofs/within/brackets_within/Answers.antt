@@ -1,4 +1,4 @@
-use Rattle.std.proofs.Common.{◌∙◌, ◌+◌, ap, sym, arith, drop}
+use Rattle.std.proofs.Common.{◌∙◌, ◌+◌, ap, sym, drop}
 use Rattle.wiki_model.specs.Bytes.{begins}
 use Rattle.page_markup.specs.Marks.{next_place}
 use Rattle.page_markup.proofs.Cuts.{opening_cut, closing_cut}
