@@ -1,5 +1,5 @@
 -- Blocks and the page around them, a line at a time.
-use Rattle.std.proofs.Common.{suc, [], ◌∷◌, ◌++◌, List, length, take, drop, map, ◌≡◌, ℕ, ◌≤◌, ◌<◌, ◌+◌, ◌-◌, refl, arith, ap, sym, ◌∙◌, append_assoc, append-nil, subst}
+use Rattle.std.proofs.Common.{[], ◌∷◌, ◌++◌, List, length, drop, map, ◌≡◌, ℕ, ◌≤◌, ◌+◌, refl, arith, ap, sym, ◌∙◌, append_assoc, append-nil}
 use Rattle.std.specs.Prelude.{codes, ⊤}
 use Rattle.std.proofs.lemmas.List.{drop_all}
 use Rattle.wiki_model.specs.Bytes.{Bytes}

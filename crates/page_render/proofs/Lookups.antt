@@ -1,5 +1,5 @@
 -- Where a template page stands.
-use Rattle.std.proofs.Common.{zero, suc, [], ◌∷◌, ◌++◌, List, length, take, drop, ◌≡◌, ℕ, ◌≤◌, ◌<◌, ◌+◌, ◌-◌, Bool, true, false, refl, arith, ap, sym, ◌∙◌, Some, None, get_or, cond, nat_eq, nat_lt, subst, inl, inr, ◌⊎◌}
+use Rattle.std.proofs.Common.{zero, suc, [], ◌∷◌, ◌++◌, length, take, drop, ◌≡◌, ℕ, ◌≤◌, ◌<◌, ◌+◌, ◌-◌, Bool, true, false, refl, arith, ap, sym, ◌∙◌, Some, None, get_or, cond, nat_eq, nat_lt, subst, inl, inr, ◌⊎◌}
 use Rattle.std.specs.Prelude.{Option, option_map, option_and_then, if◌then◌else◌}
 use Rattle.std.specs.List.{slice_get}
 use Rattle.std.specs.Str.{bytes_eq}
@@ -14,7 +14,7 @@ use Rattle.std.proofs.Math.Seq.{drop-cons}
 use Rattle.std.proofs.Math.Nat.{eq-or-lt_of_le}
 use Rattle.wiki_titles.specs.Order.{bytes_cmp}
 use Rattle.wiki_model.specs.Bytes.{Bytes, begins}
-use Rattle.wiki_model.specs.Titles.{Title, Text, template_prefix}
+use Rattle.wiki_model.specs.Titles.{Title, template_prefix}
 use Rattle.wiki_model.specs.Html.{Templates, template_named}
 use Rattle.page_markup.proofs.Taken.{at_most_or_past}
 use Rattle.page_render.specs.Templates.{Pairs, IsRising, indexed, first_place, text_named}

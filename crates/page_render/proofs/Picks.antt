@@ -1,5 +1,5 @@
 -- Which rule holds at a place.
-use Rattle.std.proofs.Common.{suc, [], ◌∷◌, length, take, drop, ◌≡◌, ℕ, ◌≤◌, ◌<◌, ◌+◌, ◌-◌, Bool, true, false, refl, arith, ap, sym, ◌∙◌, Some, None, nat_eq, nat_le, get_or}
+use Rattle.std.proofs.Common.{suc, ◌∷◌, length, take, drop, ◌≡◌, ℕ, ◌≤◌, ◌<◌, ◌+◌, ◌-◌, Bool, true, false, refl, arith, ap, sym, ◌∙◌, Some, None, nat_eq, nat_le, get_or}
 use Rattle.std.specs.Prelude.{Option, codes, option_map, option_and_then, if◌then◌else◌, unwrap_or}
 use Rattle.std.proofs.lemmas.Bool.Decides.{nat_tests}
 use Rattle.std.proofs.Math.Seq.{drop-cons}

@@ -1,16 +1,16 @@
 -- One place of a text read, by what is used there.
-use Rattle.std.proofs.Common.{zero, suc, [], ◌∷◌, ◌++◌, List, length, take, drop, ◌≡◌, ℕ, ◌≤◌, ◌<◌, ◌+◌, ◌-◌, Bool, true, false, refl, arith, ap, sym, ◌∙◌, subst, Some, None, nat_eq, nat_lt, get_or, append_assoc, append-nil}
-use Rattle.std.specs.Prelude.{Option, codes, unwrap_or}
+use Rattle.std.proofs.Common.{zero, suc, [], ◌∷◌, ◌++◌, length, take, drop, ◌≡◌, ℕ, ◌≤◌, ◌<◌, ◌+◌, ◌-◌, Bool, true, false, refl, arith, ap, sym, ◌∙◌, nat_lt, get_or, append_assoc, append-nil}
 use Rattle.std.proofs.lemmas.Bool.Decides.{nat_tests}
 use Rattle.std.proofs.Math.Seq.{take-length}
 use Rattle.wiki_model.specs.Bytes.{Bytes, replaced, line_feed, space}
-use Rattle.wiki_model.specs.Titles.{Text, url_of}
 use Rattle.wiki_model.specs.Html.{Templates, Reader, Reading, mark_at, read_mark, then_rest, inline, escaped, escaped_byte, element}
 use Rattle.wiki_model.specs.Html as html
 use Rattle.page_markup.specs.Within.{between}
 use Rattle.page_render.specs.declared.choice.Emphasis.{Emphasis}
 use Rattle.page_render.specs.declared.choice.Emphasis.TheVariants.{BoldItalic, Bold, Italic}
-use Rattle.page_render.specs.Use.{emphasized, width_of, opening_of, closing_of, GoesOn}
+use Rattle.page_render.specs.declared.choice.Use.{Use}
+use Rattle.page_render.specs.declared.choice.Use.TheVariants.{Letter, Quotes, Link, Include}
+use Rattle.page_render.specs.Use.{IsUse, mark_used, behind, shown, emphasized, width_of, opening_of, closing_of, GoesOn}
 use Rattle.page_render.proofs.Picks.{between_on}
 use Rattle.page_render.proofs.Fuel.{reading_on}
 
@@ -53,82 +53,21 @@ quotes_read read i n BoldItalic inner rest = refl
 quotes_read read i n Bold inner rest = refl
 quotes_read read i n Italic inner rest = refl
 
-joined : (a b c d e : Bytes) → (((a ++ b) ++ c) ++ d) ++ e ≡ a ++ (((b ++ c) ++ d) ++ e)
-joined a b c d e = simp append_assoc
+-- what is shown for a place, and then what is left
+abbrev then_read : Reader → Reading → Bytes → Reading
+then_read read first rest =
+    let tail = read first.included rest in
+    record { html = first.html ++ tail.html; included = tail.included }
 
--- what was written between two tags, and what is left
-between_tags : (old new opening content closing : Bytes) (whole left : Reading) (read : Reader) (rest : Bytes) (inner : Reading)
-    → whole ≡ then_rest read opening closing rest inner → left ≡ read inner.included rest → content ≡ inner.html → new ≡ ((old ++ opening) ++ content) ++ closing
-    → GoesOn old new whole left
-between_tags old new opening content closing whole left read rest inner w l c n =
-    let tail = read inner.included rest in (
-      ap (λ x. x ++ left.html) n ∙ ap (λ t. (((old ++ opening) ++ content) ++ closing) ++ t.html) l ∙ ap (λ x. (((old ++ opening) ++ x) ++ closing) ++ tail.html) c
-          ∙ joined old opening inner.html closing tail.html ∙ ap (λ r. old ++ r.html) (sym w),
-      ap (λ t. t.included) l ∙ ap (λ r. r.included) (sym w),
-    )
-
-pub letter_goes : (templates : Templates) (depth n at to : ℕ) (text old new : Bytes) → at < to → to ≤ length text
-    → html.Letter (get_or text at 0) (between (at + 1) to text) ≡ mark_there templates depth n at to text → new ≡ old ++ escaped_byte (get_or text at 0)
-    → GoesOn old new (inline templates depth n (between at to text)) (inline templates depth n (between (at + 1) to text))
-letter_goes templates depth n at to text old new h k e w =
-    let c = get_or text at 0 in
-    let r : Reading = record { html = escaped_byte c; included = n } in
-    between_tags old new [] (escaped_byte c) [] (inline templates depth n (between at to text)) (inline templates depth n (between (at + 1) to text)) (inline templates depth) (between (at + 1) to text) r
-    (step_is templates depth n at to text (html.Letter c (between (at + 1) to text)) h k e) refl refl
-    (w ∙ sym (ap (λ x. (x ++ escaped_byte c) ++ []) (append-nil old) ∙ append-nil (old ++ escaped_byte c)))
-
-pub quotes_go : (templates : Templates) (depth n at to : ℕ) (text old new : Bytes) (emphasis : Emphasis) (close after : ℕ) (content : Bytes) → at < to → to ≤ length text
-    → emphasized emphasis (between (at + width_of emphasis) close text) (between (close + width_of emphasis) to text) ≡ mark_there templates depth n at to text
-    → content ≡ (inline templates depth n (between (at + width_of emphasis) close text)).html → after ≡ (inline templates depth n (between (at + width_of emphasis) close text)).included
-    → new ≡ ((old ++ opening_of emphasis) ++ content) ++ closing_of emphasis
-    → GoesOn old new (inline templates depth n (between at to text)) (inline templates depth after (between (close + width_of emphasis) to text))
-quotes_go templates depth n at to text old new emphasis close after content h k e c a w =
-    let inner = between (at + width_of emphasis) close text in
-    let rest = between (close + width_of emphasis) to text in
-    between_tags old new (opening_of emphasis) content (closing_of emphasis) (inline templates depth n (between at to text)) (inline templates depth after rest) (inline templates depth) rest
-    (inline templates depth n inner)
-    (step_is templates depth n at to text (emphasized emphasis inner rest) h k e ∙ quotes_read (inline templates depth) (inside templates depth) n emphasis inner rest)
-    (ap (λ j. inline templates depth j rest) a) c w
-
-pub link_goes : (templates : Templates) (depth n at to : ℕ) (text old new : Bytes) (target label : Bytes) (close : ℕ) → at < to → to ≤ length text
-    → html.Link target label (between (close + 2) to text) ≡ mark_there templates depth n at to text
-    → new ≡ ((old ++ (codes "<a href=\"/wiki/" ++ url_of target ++ codes "\">")) ++ escaped label) ++ codes "</a>"
-    → GoesOn old new (inline templates depth n (between at to text)) (inline templates depth n (between (close + 2) to text))
-link_goes templates depth n at to text old new target label close h k e w =
-    let rest = between (close + 2) to text in
-    let r : Reading = record { html = escaped label; included = n } in
-    between_tags old new (codes "<a href=\"/wiki/" ++ url_of target ++ codes "\">") (escaped label) (codes "</a>") (inline templates depth n (between at to text)) (inline templates depth n rest) (inline templates depth) rest r
-    (step_is templates depth n at to text (html.Link target label rest) h k e) refl refl w
-
-pub include_goes : (templates : Templates) (depth n at to : ℕ) (text old new : Bytes) (template : Text) (close after : ℕ) (content : Bytes) → at < to → to ≤ length text
-    → html.Include template (between (close + 2) to text) ≡ mark_there templates depth n at to text
-    → content ≡ (inside templates depth (n + length template) (replaced line_feed space template)).html
-    → after ≡ (inside templates depth (n + length template) (replaced line_feed space template)).included
-    → new ≡ old ++ content
-    → GoesOn old new (inline templates depth n (between at to text)) (inline templates depth after (between (close + 2) to text))
-include_goes templates depth n at to text old new template close after content h k e c a w =
-    let rest = between (close + 2) to text in
-    between_tags old new [] content [] (inline templates depth n (between at to text)) (inline templates depth after rest) (inline templates depth) rest
-    (inside templates depth (n + length template) (replaced line_feed space template))
-    (step_is templates depth n at to text (html.Include template rest) h k e)
-    (ap (λ j. inline templates depth j rest) a) c
-    (w ∙ sym (ap (λ x. (x ++ content) ++ []) (append-nil old) ∙ append-nil (old ++ content)))
+no_tags : (read : Reader) (first : Reading) (rest : Bytes) → then_rest read [] [] rest first ≡ then_read read first rest
+no_tags read first rest =
+    let tail = read first.included rest in
+    ap (λ x. let r : Reading = record { html = x ++ tail.html; included = tail.included } in r) (append-nil first.html)
 
 pub some_width : (emphasis : Emphasis) → 2 ≤ width_of emphasis
 some_width BoldItalic = omega arith
 some_width Bold = omega arith
 some_width Italic = omega arith
-
--- the same where the width is a number at hand
-pub quotes_go_by : (templates : Templates) (depth n at to : ℕ) (text old new : Bytes) (emphasis : Emphasis) (width close after : ℕ) (content : Bytes) → width ≡ width_of emphasis → at < to → to ≤ length text
-    → emphasized emphasis (between (at + width_of emphasis) close text) (between (close + width_of emphasis) to text) ≡ mark_there templates depth n at to text
-    → content ≡ (inline templates depth n (between (at + width) close text)).html → after ≡ (inline templates depth n (between (at + width) close text)).included
-    → new ≡ ((old ++ opening_of emphasis) ++ content) ++ closing_of emphasis
-    → GoesOn old new (inline templates depth n (between at to text)) (inline templates depth after (between (close + width) to text))
-quotes_go_by templates depth n at to text old new emphasis width close after content s h k e c a w =
-    subst (λ d. GoesOn old new (inline templates depth n (between at to text)) (inline templates depth after (between (close + d) to text))) (sym s)
-    (quotes_go templates depth n at to text old new emphasis close after content h k e
-    (c ∙ ap (λ d. (inline templates depth n (between (at + d) close text)).html) s) (a ∙ ap (λ d. (inline templates depth n (between (at + d) close text)).included) s) w)
 
 -- nothing is left
 nothing_read : (templates : Templates) (depth n : ℕ) → inline templates depth n [] ≡ record { html = []; included = n }
@@ -139,7 +78,7 @@ pub at_the_end : (templates : Templates) (depth n at to : ℕ) (text : Bytes) �
 at_the_end templates depth n at to text h =
     ap (λ k. inline templates depth n (take k (drop at text))) (let z : to - at ≡ 0 = omega (arith, h) in z) ∙ nothing_read templates depth n
 
-pub deep : (d : ℕ) → nat_lt 0 d ≡ true → 0 < d
+deep : (d : ℕ) → nat_lt 0 d ≡ true → 0 < d
 deep zero e = let no : ⊥ = cc in absurd no
 deep (suc d) e = omega arith
 
@@ -147,9 +86,45 @@ pub whole_text : (len : ℕ) (t : Bytes) → len ≡ length t → between 0 len 
 whole_text len t e = ap (λ n. take n t) (let z : len - 0 ≡ length t = omega (arith, e) in z) ∙ take-length t
 
 -- an included text is read by the same call, one template less deep
-pub inside_part : (templates : Templates) (depth n k : ℕ) (template : Bytes) → 0 < depth → k ≡ n + length template
+inside_part : (templates : Templates) (depth n k : ℕ) (template : Bytes) → 0 < depth → k ≡ n + length template
     → inline templates (depth - 1) k (replaced line_feed space template) ≡ inside templates depth (n + length template) (replaced line_feed space template)
 inside_part templates zero n k template h i = let no : ⊥ = omega (arith, h) in absurd no
 inside_part templates (suc d) n k template h i =
     ap (λ x. inline templates x k (replaced line_feed space template)) (let z : suc d - 1 ≡ d = omega arith in z)
     ∙ ap (λ x. inline templates d x (replaced line_feed space template)) i
+
+-- the mark that is used at a place is read as what is shown for it, and then the rest
+use_read : (templates : Templates) (depth n at to : ℕ) (text : Bytes) (used : Use) → IsUse at to n (nat_lt 0 depth) used
+    → read_mark (inline templates depth) (inside templates depth) n (mark_used at to text used)
+    ≡ then_read (inline templates depth) (shown templates depth n at text used) (between (behind at used) to text)
+use_read templates depth n at to text Letter b = no_tags (inline templates depth) (shown templates depth n at text Letter) (between (at + 1) to text)
+use_read templates depth n at to text (Quotes emphasis close) b =
+    quotes_read (inline templates depth) (inside templates depth) n emphasis (between (at + width_of emphasis) close text) (between (close + width_of emphasis) to text)
+use_read templates depth n at to text (Link title close) b = refl
+use_read templates depth n at to text (Include template close) b =
+    let rest = between (close + 2) to text in
+    let size = n + length template.now in
+    no_tags (inline templates depth) (inside templates depth size (replaced line_feed space template.now)) rest
+    ∙ ap (λ r. then_read (inline templates depth) r rest) (sym (inside_part templates depth n size template.now (deep depth b.2) refl))
+
+-- what is used at a place was written, and what stands behind it is left
+pub use_goes : (templates : Templates) (depth n at to : ℕ) (text old new : Bytes) (used : Use) (after : ℕ) → at < to → to ≤ length text
+    → IsUse at to n (nat_lt 0 depth) used → mark_used at to text used ≡ mark_there templates depth n at to text
+    → new ≡ old ++ (shown templates depth n at text used).html → after ≡ (shown templates depth n at text used).included
+    → GoesOn old new (inline templates depth n (between at to text)) (inline templates depth after (between (behind at used) to text))
+use_goes templates depth n at to text old new used after h k b e w a =
+    let first = shown templates depth n at text used in
+    let rest = between (behind at used) to text in
+    let tail = inline templates depth first.included rest in
+    let whole = step_is templates depth n at to text (mark_used at to text used) h k e ∙ use_read templates depth n at to text used b in
+    let left = ap (λ m. inline templates depth m rest) a in (
+      ap (λ x. x ++ (inline templates depth after rest).html) w ∙ ap (λ t. (old ++ first.html) ++ t.html) left ∙ append_assoc old first.html tail.html ∙ ap (λ r. old ++ r.html) (sym whole),
+      ap (λ t. t.included) left ∙ ap (λ r. r.included) (sym whole),
+    )
+
+-- where what is used at a place ends
+pub behind_place : (at to n : ℕ) (reads : Bool) (used : Use) → at < to → IsUse at to n reads used → (at < behind at used) × (behind at used ≤ to)
+behind_place at to n reads Letter h b = (omega arith, omega (arith, h))
+behind_place at to n reads (Quotes emphasis close) h b = let some = some_width emphasis in (omega (arith, b.0, some), omega (arith, b.1))
+behind_place at to n reads (Link title close) h b = (omega (arith, b.0), omega (arith, b.1))
+behind_place at to n reads (Include template close) h b = (omega (arith, b.0), omega (arith, b.1))

@@ -1,5 +1,5 @@
 -- The HTML of what is left of a text, line by line.
-use Rattle.std.specs.Prelude.{ℕ, List, [], ◌∷◌, ◌++◌, codes}
+use Rattle.std.specs.Prelude.{ℕ, List, ◌∷◌, ◌++◌, codes}
 use Rattle.wiki_model.specs.Bytes.{Bytes}
 use Rattle.wiki_model.specs.Html.{Reader, Items, blocks, line_end, element, each_between}
 use Rattle.wiki_model.specs.Html as html

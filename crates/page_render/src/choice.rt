@@ -67,6 +67,33 @@ pub struct Chosen<'p> {
     pub known: Known,
 }
 
+impl<'p> Chosen<'p> {
+    ghost use Rattle.std.specs.Prelude.{◌≡◌};
+    ghost use Rattle.page_render.specs.declared.choice.Use.TheVariants.{Letter, Quotes};
+
+    /// No mark is used: the place is read as a letter.
+    fn letter(known: Known) -> Chosen<'p>
+        ensures used { result.used ≡ Letter }
+        ensures known { result.known ≡ known }
+    {
+        Chosen {
+            used: Use::Letter,
+            known,
+        }
+    }
+
+    /// Quotes of this kind are used, and close at this place.
+    fn quotes(emphasis: Emphasis, close: usize, known: Known) -> Chosen<'p>
+        ensures used { result.used ≡ Quotes emphasis close }
+        ensures known { result.known ≡ known }
+    {
+        Chosen {
+            used: Use::Quotes { emphasis, close },
+            known,
+        }
+    }
+}
+
 /// The quotes that are used at the place.
 #[tactic(auto, using(crate::proofs::Picks::five_used, crate::proofs::Picks::three_used, crate::proofs::Picks::two_used, crate::proofs::Picks::none_used))]
 fn quotes_at<'p>(text: &str, at: usize, to: usize, known: Known) -> Chosen<'p>
@@ -83,13 +110,7 @@ fn quotes_at<'p>(text: &str, at: usize, to: usize, known: Known) -> Chosen<'p>
         ..known
     };
     if let Some(close) = five.close {
-        return Chosen {
-            used: Use::Quotes {
-                emphasis: Emphasis::BoldItalic,
-                close,
-            },
-            known,
-        };
+        return Chosen::quotes(Emphasis::BoldItalic, close, known);
     }
     let three = quotes_within(text, b"'''", at, to, known.three);
     let known = Known {
@@ -97,13 +118,7 @@ fn quotes_at<'p>(text: &str, at: usize, to: usize, known: Known) -> Chosen<'p>
         ..known
     };
     if let Some(close) = three.close {
-        return Chosen {
-            used: Use::Quotes {
-                emphasis: Emphasis::Bold,
-                close,
-            },
-            known,
-        };
+        return Chosen::quotes(Emphasis::Bold, close, known);
     }
     let two = quotes_within(text, b"''", at, to, known.two);
     let known = Known {
@@ -111,17 +126,8 @@ fn quotes_at<'p>(text: &str, at: usize, to: usize, known: Known) -> Chosen<'p>
         ..known
     };
     match two.close {
-        Some(close) => Chosen {
-            used: Use::Quotes {
-                emphasis: Emphasis::Italic,
-                close,
-            },
-            known,
-        },
-        None => Chosen {
-            used: Use::Letter,
-            known,
-        },
+        Some(close) => Chosen::quotes(Emphasis::Italic, close, known),
+        None => Chosen::letter(known),
     }
 }
 
@@ -147,20 +153,14 @@ fn link_at<'p>(
         ..known
     };
     match brackets.close {
-        None => Ok(Chosen {
-            used: Use::Letter,
-            known,
-        }),
+        None => Ok(Chosen::letter(known)),
         Some(close) => {
             match page_markup::link_title(alloc, page_markup::part(text, at + 2, close))? {
                 Some(title) => Ok(Chosen {
                     used: Use::Link { title, close },
                     known,
                 }),
-                None => Ok(Chosen {
-                    used: Use::Letter,
-                    known,
-                }),
+                None => Ok(Chosen::letter(known)),
             }
         }
     }
@@ -191,15 +191,9 @@ fn template_at<'p>(
         ..known
     };
     match braces.close {
-        None => Ok(Chosen {
-            used: Use::Letter,
-            known,
-        }),
+        None => Ok(Chosen::letter(known)),
         Some(close) => match pages.find(alloc, page_markup::part(text, at + 2, close))? {
-            None => Ok(Chosen {
-                used: Use::Letter,
-                known,
-            }),
+            None => Ok(Chosen::letter(known)),
             Some(template) => Ok(Chosen {
                 used: if_it_fits(template, included, close),
                 known,
@@ -256,8 +250,5 @@ pub fn choose<'p>(
             return Ok(chosen);
         }
     }
-    Ok(Chosen {
-        used: Use::Letter,
-        known,
-    })
+    Ok(Chosen::letter(known))
 }

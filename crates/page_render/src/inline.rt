@@ -1,14 +1,14 @@
 // The HTML of a text that is read inline.
-ghost use Rattle.std.specs.Prelude.{◌≡◌, ◌≤◌, ◌<◌, ◌+◌, ◌++◌, ℕ, List, IfOk, length, drop, take, ◌-◌, codes, true};
+ghost use Rattle.std.specs.Prelude.{◌≡◌, ◌≤◌, ◌<◌, ◌+◌, ◌++◌, ℕ, List, IfOk, length, drop, take, ◌-◌, ◌^◌, codes, true, nat_lt};
 ghost use Rattle.std.specs.List.{list_all};
-ghost use Rattle.wiki_model.specs.Html.{inline, escaped, target_and_label};
+ghost use Rattle.wiki_model.specs.Html.{inline, element, escaped, target_and_label};
 ghost use Rattle.wiki_model.specs.Titles.{url_of};
 ghost use Rattle.wiki_model.specs.Bytes.{replaced, line_feed, space};
 ghost use Rattle.page_markup.specs.Marks.{IsKnown};
 ghost use Rattle.page_markup.specs.Within.{between};
-ghost use Rattle.page_render.specs.Use.{GoesOn, is_bare, template_text};
+ghost use Rattle.page_render.specs.Use.{GoesOn, IsUse, behind, in_tags, is_bare, shown, template_text};
 
-use crate::choice::{self, Use};
+use crate::choice::{self, Emphasis, Use};
 use crate::tags;
 use crate::templates::Pages;
 use page_markup::Known;
@@ -40,13 +40,15 @@ fn open_link(alloc: Global, out: &mut Vec<u8>, title: &Title) -> Result<(), Allo
     Ok(())
 }
 
+/// Writes a link to the page of this title.
+#[tactic(auto, using(crate::proofs::Labels::three_joined))]
 fn write_link(
     alloc: Global,
     out: &mut Vec<u8>,
     title: &Title,
     inner: &[u8],
 ) -> Result<(), AllocError>
-    ensures { IfOk result (λ _. out.new.items ≡ ((out.old.items ++ (codes "<a href=\"/wiki/" ++ url_of title.now ++ codes "\">")) ++ escaped (target_and_label inner.now).1) ++ codes "</a>") }
+    ensures { IfOk result (λ _. out.new.items ≡ out.old.items ++ element (codes "<a href=\"/wiki/" ++ url_of title.now ++ codes "\">") (codes "</a>") (escaped (target_and_label inner.now).1)) }
 {
     open_link(alloc, out, title)?;
     write_label(out, inner)?;
@@ -106,6 +108,19 @@ pub struct Next {
     pub progress: Progress,
 }
 
+/// The place behind what is used at the place: behind its closing mark, or one letter on.
+fn place_behind(used: &Use<'_>, at: usize) -> usize
+    requires { behind at used.now < 2 ^ 63 }
+    ensures { result ≡ behind at used.now }
+{
+    match used {
+        Use::Letter => at + 1,
+        Use::Quotes { emphasis, close } => *close + emphasis.width(),
+        Use::Link { close, .. } => *close + 2,
+        Use::Include { close, .. } => *close + 2,
+    }
+}
+
 /// Writes what stands at the place: a run of letters, or what is used there.
 #[cycle(texts)]
 fn write_place<'p>(
@@ -132,74 +147,90 @@ fn write_place<'p>(
         out.extend_from_slice(part(bytes, at, end))?;
         return Ok(Next { at: end, progress });
     }
+    let reads = 0 < depth;
     let included = progress.included;
-    let chosen = choice::choose(
-        alloc,
-        pages,
-        text,
-        at,
-        to,
-        0 < depth,
-        included,
-        progress.known,
-    )?;
+    let chosen = choice::choose(alloc, pages, text, at, to, reads, included, progress.known)?;
     let known = chosen.known;
-    match &chosen.used {
+    let progress = Progress { included, known };
+    let next = place_behind(&chosen.used, at);
+    let progress = write_used(alloc, out, pages, text, at, &chosen.used, depth, progress)?;
+    Ok(Next { at: next, progress })
+}
+
+/// Writes what is used at the place. Answers how far the page is read behind it.
+#[cycle(texts)]
+fn write_used<'p>(
+    alloc: Global,
+    out: &mut Vec<u8>,
+    pages: &Pages<'p>,
+    text: &str,
+    at: usize,
+    used: &Use<'p>,
+    depth: u8,
+    progress: Progress,
+) -> Result<Progress, AllocError>
+    requires order { at < length text.now }
+    requires bounds { IsUse at (length text.now) progress.included (nat_lt 0 depth) used.now }
+    requires included { progress.included ≤ 262144 }
+    requires known { IsKnown text.now (at + 1) progress.known }
+    ensures bound { IfOk result (λ after. after.included ≤ 262144) }
+    ensures known { IfOk result (λ after. IsKnown text.now (behind at used.now) after.known) }
+    ensures html { IfOk result (λ _. out.new.items ≡ out.old.items ++ (shown (template_text pages.now) depth progress.included at text.now used.now).html) }
+    ensures included { IfOk result (λ after. after.included ≡ (shown (template_text pages.now) depth progress.included at text.now used.now).included) }
+{
+    match used {
         Use::Letter => {
-            tags::write_letter(out, bytes[at])?;
-            Ok(Next {
-                at: at + 1,
-                progress: Progress { included, known },
-            })
+            tags::write_letter(out, text.as_bytes()[at])?;
+            Ok(progress)
         }
         Use::Quotes { emphasis, close } => {
-            let close = *close;
-            let width = emphasis.width();
-            out.extend_from_slice(emphasis.opening())?;
-            let after = write_text(
-                alloc,
-                out,
-                pages,
-                text,
-                at + width,
-                close,
-                depth,
-                Progress { included, known },
+            let from = at + emphasis.width();
+            let after = write_quotes(
+                alloc, out, pages, text, *emphasis, from, *close, depth, progress,
             )?;
-            out.extend_from_slice(emphasis.closing())?;
-            Ok(Next {
-                at: close + width,
-                progress: after,
-            })
+            Ok(after)
         }
         Use::Link { title, close } => {
-            write_link(alloc, out, title, part(bytes, at + 2, *close))?;
-            Ok(Next {
-                at: *close + 2,
-                progress: Progress { included, known },
-            })
+            write_link(alloc, out, title, part(text.as_bytes(), at + 2, *close))?;
+            Ok(progress)
         }
-        Use::Include {
-            text: template,
-            close,
-        } => {
-            let after = write_line(
-                alloc,
-                out,
-                pages,
-                template,
-                depth - 1,
-                included + template.text().len(),
-            )?;
-            Ok(Next {
-                at: *close + 2,
-                progress: Progress {
-                    included: after,
-                    known,
-                },
+        Use::Include { text: template, .. } => {
+            let before = progress.included + template.text().len();
+            let included = write_line(alloc, out, pages, template, depth - 1, before)?;
+            Ok(Progress {
+                included,
+                ..progress
             })
         }
     }
+}
+
+/// Writes the text between quotes, and their tags round it.
+#[cycle(texts)]
+fn write_quotes<'p>(
+    alloc: Global,
+    out: &mut Vec<u8>,
+    pages: &Pages<'p>,
+    text: &str,
+    emphasis: Emphasis,
+    from: usize,
+    close: usize,
+    depth: u8,
+    progress: Progress,
+) -> Result<Progress, AllocError>
+    requires order { from ≤ close }
+    requires within { close ≤ length text.now }
+    requires included { progress.included ≤ 262144 }
+    requires known { IsKnown text.now from progress.known }
+    ensures bound { IfOk result (λ after. after.included ≤ 262144) }
+    ensures known { IfOk result (λ after. IsKnown text.now close after.known) }
+    ensures html { IfOk result (λ _. out.new.items ≡ out.old.items ++ (in_tags emphasis (inline (template_text pages.now) depth progress.included (between from close text.now))).html) }
+    ensures included { IfOk result (λ after. after.included ≡ (inline (template_text pages.now) depth progress.included (between from close text.now)).included) }
+{
+    out.extend_from_slice(emphasis.opening())?;
+    let after = write_text(alloc, out, pages, text, from, close, depth, progress)?;
+    out.extend_from_slice(emphasis.closing())?;
+    Ok(after)
 }
 
 /// Writes the text in one line. Answers how many template bytes the page has included by then.

@@ -1,4 +1,4 @@
-use Rattle.std.proofs.Common.{◌∙◌, ◌≡◌, ◌+◌, ap, sym, get_or, ℕ}
+use Rattle.std.proofs.Common.{◌∙◌, ◌+◌, ap, sym, get_or}
 use Rattle.std.specs.Prelude.{codes, option_and_then}
 use Rattle.wiki_model.specs.Html.{bracketed, link, include, mark_at}
 use Rattle.page_markup.specs.Within.{between}
@@ -37,4 +37,4 @@ returns-then-reads-clause-used c =
     (ap (λ b. mark_at templates b n byte rest) c.if-reads.true ∙ template_mark templates n byte rest first)
 
 pub returns-clause-known : goal.returns-clause-known
-returns-clause-known c = known_on c.args.text.now c.args.at c.args.known c.requires.known
+returns-clause-known c = rw c.letter.ensures.known (known_on c.args.text.now c.args.at c.args.known c.requires.known)

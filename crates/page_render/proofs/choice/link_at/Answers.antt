@@ -3,7 +3,7 @@ use Rattle.page_render.proofs.choice.link_at.Goals as goal
 
 pub returns-in-None-clause-known : goal.returns-in-None-clause-known
 returns-in-None-clause-known c =
-    known_next c.args.text.now c.args.at _ c.requires.known.five c.requires.known.three c.requires.known.two c.brackets_within-brackets.ensures.remembers c.requires.known.braces
+    rw c.letter.ensures.known (known_next c.args.text.now c.args.at _ c.requires.known.five c.requires.known.three c.requires.known.two c.brackets_within-brackets.ensures.remembers c.requires.known.braces)
 
 pub returns-in-Some-2-clause-known : goal.returns-in-Some-2-clause-known
 returns-in-Some-2-clause-known c =
@@ -11,4 +11,4 @@ returns-in-Some-2-clause-known c =
 
 pub returns-in-None-2-clause-known : goal.returns-in-None-2-clause-known
 returns-in-None-2-clause-known c =
-    known_next c.args.text.now c.args.at _ c.requires.known.five c.requires.known.three c.requires.known.two c.brackets_within-brackets.ensures.remembers c.requires.known.braces
+    rw c.letter-in-None-2.ensures.known (known_next c.args.text.now c.args.at _ c.requires.known.five c.requires.known.three c.requires.known.two c.brackets_within-brackets.ensures.remembers c.requires.known.braces)

@@ -1,9 +1,7 @@
-use Rattle.std.proofs.Common.{◌∙◌, ◌≡◌, ◌<◌, ◌+◌, ◌-◌, ◌/◌, ap, sym, arith, length, Some}
-use Rattle.std.specs.declared.cmp.Ordering.{Ordering}
+use Rattle.std.proofs.Common.{◌∙◌, ◌<◌, ◌+◌, ◌-◌, ◌/◌, ap, sym, arith, Some}
 use Rattle.std.specs.declared.cmp.Ordering.TheVariants.{Less, Equal, Greater}
 use Rattle.wiki_model.specs.Bytes.{begins}
 use Rattle.wiki_model.specs.Titles.{template_prefix}
-use Rattle.wiki_titles.specs.Order.{bytes_cmp}
 use Rattle.page_render.specs.Templates.{title_wanted}
 use Rattle.page_render.proofs.Lookups.{below_on, above_on, found_there, none_between, at_middle}
 use Rattle.page_render.proofs.templates.find_halving.Goals as goal
