@@ -152,9 +152,9 @@ fn write_place<'p>(
     let chosen = choice::choose(alloc, pages, text, at, to, reads, included, progress.known)?;
     let known = chosen.known;
     let progress = Progress { included, known };
+    let next = place_behind(&chosen.used, at);
     let progress = write_used(alloc, out, pages, text, at, &chosen.used, depth, progress)?;
-    let at = place_behind(&chosen.used, at);
-    Ok(Next { at, progress })
+    Ok(Next { at: next, progress })
 }
 
 /// Writes what is used at the place. Answers how far the page is read behind it.

@@ -29,7 +29,7 @@ write_place-returns-clause-goes t c =
     let templates = template_text c.args.pages.now in
     let after = c.in_ok-progress.progress.included in
     subst (λ p. GoesOn c.args.out.now.items c.write_used.new.out.items (inline templates c.args.depth c.args.progress.included (between c.args.at c.args.to text)) (inline templates c.args.depth after (between p c.args.to text)))
-    (sym c.place_behind-at.ensures)
+    (sym c.place_behind-next.ensures)
     (use_goes templates c.args.depth c.args.progress.included c.args.at c.args.to text c.args.out.now.items c.write_used.new.out.items c.in_ok-chosen.chosen.used after
     c.requires.1.1.0 c.requires.1.1.1.0 c.in_ok-chosen.ensures.bounds c.in_ok-chosen.ensures.used c.in_ok-progress.ensures.html c.in_ok-progress.ensures.included)
 
