@@ -1,24 +1,11 @@
 -- Commits told in turn, and what stays when nothing new is told.
-use Rattle.std.proofs.Common.{◌≡◌, ℕ, ◌+◌, ◌<◌, Bool, true, false, List, [], ◌∷◌, ◌++◌, length, take, get_or, Some, None, Option, refl, sym, ◌∙◌, ap, bytes_eq}
+use Rattle.std.proofs.Common.{◌≡◌, ℕ, ◌+◌, ◌<◌, Bool, true, false, List, [], ◌∷◌, ◌++◌, length, take, get_or, refl, sym, ◌∙◌, ap, bytes_eq}
 use Rattle.std.proofs.lemmas.List.{take_more}
 use Rattle.std.proofs.lemmas.Slice.Eq.{bytes_eq-Decides}
 use Rattle.chronology_store.specs.declared.rows.Row.{Row}
-use Rattle.chronology_store.specs.declared.rows.Held.{Held}
 use Rattle.chronology_store.specs.declared.Written.{Written}
-use Rattle.chronology_store.specs.Held.{is_newer, later, with_told, held_by, told_one, told_by}
+use Rattle.chronology_store.specs.Held.{with_told, held_by, told_one, told_by}
 use Rattle.chronology_store.specs.Rows.{Positions, row_of, Changes, TellsAll}
-
-later-held : (held : Option Held) (told : Held) → is_newer held told.index ≡ false → Some (later held told) ≡ held
-later-held None told old = let no : ⊥ = cc in absurd no
-later-held (Some held) told old = rw old refl
-
--- an index that isn't above the one that is held changes nothing
-pub older_stays : (client : List ℕ) (told : Held) (positions : Positions) → is_newer (row_of positions client).held told.index ≡ false
-    → Changes client (with_told told) positions positions
-older_stays client told positions old = record {
-  here = let row = row_of positions client in ap (λ (held : Option Held). record row { held = held }) (sym (later-held row.held told old));
-  others = λ other apart. refl;
-}
 
 told_by-push : (rows : List Written) (written : Written) (client : List ℕ) (row : Row) → told_by (rows ++ written ∷ []) client row ≡ told_one client written (told_by rows client row)
 told_by-push [] written client row = refl

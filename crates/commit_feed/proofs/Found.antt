@@ -1,9 +1,9 @@
 -- What is found in a history stands there: a commit at its number, and no more commits than entries.
-use Rattle.std.proofs.Common.{◌≡◌, ℕ, zero, suc, ◌<◌, ◌≤◌, ◌+◌, Bool, true, false, cond, List, [], ◌∷◌, length, filter, take, Option, None, Some, refl, sym, ap, ◌∙◌, subst, arith}
-use Rattle.std.specs.Prelude.{find, slice_get, option_map, bytes_eq}
+use Rattle.std.proofs.Common.{◌≡◌, ℕ, zero, suc, ◌≤◌, ◌+◌, Bool, true, false, cond, List, [], ◌∷◌, length, filter, take, Option, None, Some, refl, ap, ◌∙◌, arith}
+use Rattle.std.specs.Prelude.{find, slice_get, bytes_eq}
 use Rattle.std.proofs.lemmas.List.Sums.{length-filter, count_by-le-length}
-use Rattle.wiki_model.specs.Titles.{Title, Client, Token, Text}
-use Rattle.wiki_model.specs.History.{Entry, Beat, Committed, Commit, Numbered, commits_from, commits, commits_on, commits_by, commit_at, entry_at, page, page_text, number_of, commit_with_token, current_revision, IsHistory, count}
+use Rattle.wiki_model.specs.Titles.{Title, Client, Token}
+use Rattle.wiki_model.specs.History.{Entry, Beat, Committed, Numbered, commits_from, commits, commits_on, commits_by, entry_at, page, number_of, commit_with_token, current_revision, IsHistory, count}
 use Rattle.wiki_model.proofs.SessionLaws.{last-get, filter-get, numbered-at}
 use Rattle.wiki_model.proofs.HistoryGrowth.{current-counted}
 

@@ -1,6 +1,6 @@
 -- The printed texts are the model's, and so are the lines of one answer.
 use Rattle.std.proofs.Common.{◌≡◌, ℕ, false, List, [], ◌∷◌, ◌++◌, length, Result, Ok, Err, refl, sym, ap, ◌∙◌, append_assoc}
-use Rattle.std.specs.Prelude.{codes, decimal, IfOk, OnOk, string_bytes, String}
+use Rattle.std.specs.Prelude.{codes, decimal, IfOk, string_bytes, String}
 use Rattle.wiki_model.specs.Bytes.{Bytes}
 use Rattle.wiki_model.specs.Report.{answer_text, end_line}
 use Rattle.farm_core.specs.Shown.{answer_of}

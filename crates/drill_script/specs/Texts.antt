@@ -1,6 +1,6 @@
 -- The texts of answers, put together from the right as they are printed.
 -- Each is the model's text of the same answer.
-use Rattle.std.specs.Prelude.{ℕ, ◌∷◌, ◌++◌, length, codes, decimal}
+use Rattle.std.specs.Prelude.{ℕ, ◌++◌, length, codes, decimal}
 use Rattle.wiki_model.specs.Bytes.{Bytes}
 use Rattle.farm_core.specs.declared.answer.SavedNote.{SavedNote}
 use Rattle.farm_core.specs.declared.answer.Answer.{Answer}

@@ -1,6 +1,6 @@
 -- The pages of a front, bound by its entries from the last to the first.
-use Rattle.std.proofs.Common.{◌≡◌, ℕ, zero, suc, ◌<◌, ◌≤◌, ◌-◌, ◌+◌, Bool, true, false, cond, List, [], ◌∷◌, ◌++◌, length, take, Option, None, Some, Result, Ok, Err, refl, sym, ap, subst, ◌∙◌, arith}
-use Rattle.std.specs.Prelude.{option_map, slice_get, bytes_eq, IfOk}
+use Rattle.std.proofs.Common.{◌≡◌, ℕ, zero, suc, ◌<◌, ◌≤◌, ◌-◌, Bool, true, false, cond, List, [], ◌∷◌, ◌++◌, length, take, Option, None, Some, Result, Ok, Err, refl, sym, ap, subst, ◌∙◌, arith}
+use Rattle.std.specs.Prelude.{option_map, bytes_eq, IfOk}
 use Rattle.wiki_model.specs.Bytes.{Bytes, last_of}
 use Rattle.wiki_model.specs.Titles.{Title, Text, title_of}
 use Rattle.wiki_model.specs.History.{Entry, Beat, Committed, Numbered, commits_on, entry_at, page_text}

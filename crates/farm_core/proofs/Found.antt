@@ -1,15 +1,13 @@
 -- What is found by its number is what the history has of an edit or a page.
-use Rattle.std.proofs.Common.{◌≡◌, ℕ, suc, ◌+◌, ◌≤◌, Bool, true, false, cond, List, [], ◌∷◌, ◌++◌, length, Option, None, Some, refl, sym, ap, ◌∙◌, subst, arith}
+use Rattle.std.proofs.Common.{◌≡◌, ℕ, ◌+◌, ◌≤◌, Bool, true, false, cond, List, [], ◌∷◌, ◌++◌, length, Option, None, Some, refl, sym, ap, ◌∙◌, subst, arith}
 use Rattle.std.specs.Prelude.{option_map, unwrap_or, nat_eq}
-use Rattle.wiki_model.specs.Titles.{Title, Text}
+use Rattle.wiki_model.specs.Titles.{Title}
 use Rattle.wiki_model.specs.History.{Entry, Edit, Commit, Numbered, Committed, IsHistory, count, stamp_at, entry_at, page, page_text, number_of, commit_with_token, current_revision}
-use Rattle.wiki_model.specs.Answers.{Answer, Conflict, edit_answer, edit_answer_of}
+use Rattle.wiki_model.specs.Answers.{Conflict, edit_answer, edit_answer_of}
 use Rattle.commit_feed.proofs.Found.{number_some, number_none, with_token_at, page_at, few_revisions}
-use Rattle.wiki_model.proofs.HistoryLaws.{length-push}
 use Rattle.wiki_model.specs.Changes.{IsNext}
-use Rattle.wiki_model.proofs.HistoryGrowth.{history-push, commit-next, stamp-after}
+use Rattle.wiki_model.proofs.HistoryGrowth.{history-push, commit-next}
 use Rattle.std.proofs.lemmas.Bool.Decides.{nat_tests}
-use Rattle.farm_core.specs.Kept.{IsKept}
 use Rattle.farm_core.specs.Steps.{next_commit}
 use Rattle.farm_core.specs.Decided.{repeated_at, revision_in, text_in}
 
@@ -71,11 +69,3 @@ commit_follows h edit index is still free counted =
   where
     next : (c : Commit) → Some (next_commit h edit) ≡ Some c → IsNext h c
     next c same = let e : next_commit h edit ≡ c = cc in subst (IsNext h) e (commit-next h is edit 0 0 free)
-
--- what a farm keeps, with one more commit of moment 0
-pub kept_more : (h : List Entry) (applied : ℕ) (edit : Edit) → IsKept h applied → IsKept (h ++ Committed (next_commit h edit) ∷ []) applied
-kept_more h applied edit is =
-    let long = length-push h (Committed (next_commit h edit)) in
-    let last : stamp_at (h ++ Committed (next_commit h edit) ∷ []) (suc (length h)) ≡ 0 = stamp-after h (Committed (next_commit h edit)) in
-    let within = is.within in
-    record { within = omega (arith, long, within); still = ap (stamp_at (h ++ Committed (next_commit h edit) ∷ [])) long ∙ last }

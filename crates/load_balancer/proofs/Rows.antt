@@ -3,7 +3,7 @@ use Rattle.std.proofs.Common.{◌≡◌, ℕ, zero, suc, ◌+◌, ◌<◌, ◌�
 use Rattle.std.specs.Prelude.{slice_get, All}
 use Rattle.std.proofs.lemmas.List.Sums.{sum_by_more}
 use Rattle.std.proofs.lemmas.List.{get_or-map, length-map, take_all}
-use Rattle.std.proofs.lemmas.List.Elements.{All-more, All-weaker, All-nil}
+use Rattle.std.proofs.lemmas.List.Elements.{All-more, All-weaker}
 use Rattle.wiki_model.specs.Balance as model
 use Rattle.wiki_model.specs.Balance.{IsMostApplied, share, shares}
 use Rattle.load_balancer.specs.declared.Row.{Row}
@@ -19,14 +19,6 @@ share_more need rows i d h =
     let room : i < length (shares need (rows_of rows)) = subst (λ n. i < n) (sym (length-map (rows_of rows) (share need))) as_many in
     sum_by_more (λ n. n) (shares need (rows_of rows)) i 0 room ∙ ap (λ n. sum (take i (shares need (rows_of rows))) + n) (outer ∙ ap (share need) inner)
 
--- the sum of all
-pub share_all : (need : ℕ) (rows : List Row) (n : ℕ) → length rows ≤ n → sum (take n (shares need (rows_of rows))) ≡ sum (shares need (rows_of rows))
-share_all need rows n h =
-    let e1 = length-map rows row_of in
-    let e2 = length-map (rows_of rows) (share need) in
-    let most : length (shares need (rows_of rows)) ≤ n = omega (arith, e1, e2) in
-    ap sum (take_all n (shares need (rows_of rows)) most)
-
 -- the first of the rows with the greatest applied number, among the first `count`
 pub record IsBestOf (rows : List model.Row) (count place : ℕ) (best : model.Row) : Type 0 where
   pub there : slice_get rows place ≡ Some best
@@ -37,13 +29,6 @@ row_there : (rows : List Row) (i : ℕ) (d : Row) → i < length rows → slice_
 row_there [] i d h = absurd (omega (arith, h))
 row_there (row ∷ rows) zero d h = refl
 row_there (row ∷ rows) (suc i) d h = row_there rows i d (omega (arith, h))
-
-best_first : (rows : List Row) (d : Row) → 0 < length rows → IsBestOf (rows_of rows) 0 0 (row_of (get_or rows 0 d))
-best_first rows d h = record {
-  there = row_there rows 0 d h;
-  greatest = All-nil (λ (other : model.Row). other.applied ≤ (row_of (get_or rows 0 d)).applied);
-  first = All-nil (λ (other : model.Row). other.applied < (row_of (get_or rows 0 d)).applied);
-}
 
 seen_row : (rows : List Row) (i : ℕ) (d : Row) → i < length rows → get_or (rows_of rows) i (row_of d) ≡ row_of (get_or rows i d)
 seen_row rows i d h = get_or-map row_of rows i d (row_of d) h

@@ -1,21 +1,18 @@
 -- Which marks can stand at a place, by its first byte.
-use Rattle.std.proofs.Common.{suc, [], ◌∷◌, ◌++◌, List, length, drop, ◌≡◌, ℕ, ◌<◌, false, refl, arith, ap, sym, ◌∙◌, nat_eq, get_or, append-nil}
+use Rattle.std.proofs.Common.{suc, [], ◌∷◌, ◌++◌, List, length, drop, ◌≡◌, ℕ, ◌<◌, refl, arith, ap, sym, ◌∙◌, get_or, append-nil}
 use Rattle.std.specs.Prelude.{codes}
-use Rattle.std.proofs.lemmas.Bool.Decides.{nat_tests}
 use Rattle.std.proofs.Math.Seq.{drop-cons}
 use Rattle.wiki_model.specs.Bytes.{Bytes}
 use Rattle.wiki_model.specs.Html.{template_named}
 use Rattle.page_markup.specs.declared.inline.Mark.{Mark}
 use Rattle.page_markup.specs.Marks.{link_target, marks_here, all_quotes, bracket_marks}
+use Rattle.page_markup.proofs.Singles.{differs}
 
 abbrev pub links : (at : ℕ) (text : Bytes) → List Mark
 links at text = bracket_marks 4 (codes "[[") (codes "]]") link_target at text
 
 abbrev pub templates : (at : ℕ) (text : Bytes) → List Mark
 templates at text = bracket_marks 5 (codes "{{") (codes "}}") template_named at text
-
-differs : (a b : ℕ) → (a ≡ b → ⊥) → nat_eq a b ≡ false
-differs a b h = grind (arith, nat_tests)
 
 quotes_none : (at c : ℕ) (rest : Bytes) → (c ≡ 39 → ⊥) → all_quotes at (c ∷ rest) ≡ []
 quotes_none at c rest h = rw (differs 39 c (λ e. h (sym e))) refl
@@ -25,12 +22,6 @@ links_none at c rest h = rw (differs 91 c (λ e. h (sym e))) refl
 
 templates_none : (at c : ℕ) (rest : Bytes) → (c ≡ 123 → ⊥) → bracket_marks 5 (codes "{{") (codes "}}") template_named at (c ∷ rest) ≡ []
 templates_none at c rest h = rw (differs 123 c (λ e. h (sym e))) refl
-
-quotes_here : (at c : ℕ) (rest : Bytes) → c ≡ 39 → marks_here at (c ∷ rest) ≡ all_quotes at (c ∷ rest)
-quotes_here at c rest e =
-    let l : links at (c ∷ rest) ≡ [] = links_none at c rest (λ x. let no : ⊥ = omega (arith, e, x) in no) in
-    let t : templates at (c ∷ rest) ≡ [] = templates_none at c rest (λ x. let no : ⊥ = omega (arith, e, x) in no) in
-    ap (λ ms. all_quotes at (c ∷ rest) ++ (ms ++ templates at (c ∷ rest))) l ∙ ap (λ ms. all_quotes at (c ∷ rest) ++ ms) t ∙ append-nil (all_quotes at (c ∷ rest))
 
 links_here : (at c : ℕ) (rest : Bytes) → c ≡ 91 → marks_here at (c ∷ rest) ≡ links at (c ∷ rest)
 links_here at c rest e =
@@ -52,9 +43,6 @@ none_here at c rest x y z =
 at_place : (f g : Bytes → List Mark) (text : Bytes) (at : ℕ) → at < length text
     → f (get_or text at 0 ∷ drop (suc at) text) ≡ g (get_or text at 0 ∷ drop (suc at) text) → g (drop at text) ≡ f (drop at text)
 at_place f g text at h e = let t = drop-cons text at 0 h in ap g t ∙ sym e ∙ ap f (sym t)
-
-pub only_quotes : (text : Bytes) (at : ℕ) → at < length text → get_or text at 0 ≡ 39 → all_quotes at (drop at text) ≡ marks_here at (drop at text)
-only_quotes text at h e = at_place (marks_here at) (all_quotes at) text at h (quotes_here at (get_or text at 0) (drop (suc at) text) e)
 
 pub only_links : (text : Bytes) (at : ℕ) → at < length text → get_or text at 0 ≡ 91 → links at (drop at text) ≡ marks_here at (drop at text)
 only_links text at h e = at_place (marks_here at) (links at) text at h (links_here at (get_or text at 0) (drop (suc at) text) e)

@@ -11,10 +11,6 @@ use Rattle.wiki_model.specs.Bytes.{Bytes, begins, space, run_of, trimmed, skip_s
 use Rattle.wiki_model.specs.Html.{Blank, HeadingLine, ItemLine, PlainLine, heading_level, is_heading, middle_of, line_of}
 use Rattle.page_markup.proofs.Cuts.{begins_one}
 
--- spaces
-pub skip_on : (s t : Bytes) → s ≡ space ∷ t → skip_spaces s ≡ skip_spaces t
-skip_on s t e = ap skip_spaces e
-
 skip_none_by : (c : ℕ) (s : Bytes) (b : Bool) → nat_eq c 32 ≡ b → ((t : Bytes) → c ∷ s ≢ space ∷ t) → skip_spaces (c ∷ s) ≡ c ∷ s
 skip_none_by c s true e h = let same : c ≡ 32 = grind (arith, nat_tests) in absurd (h s (ap (λ x. x ∷ s) same))
 skip_none_by c s false e h = rw e refl
@@ -22,9 +18,6 @@ skip_none_by c s false e h = rw e refl
 pub skip_none : (s : Bytes) → ((t : Bytes) → s ≢ space ∷ t) → skip_spaces s ≡ s
 skip_none [] h = refl
 skip_none (c ∷ s) h = skip_none_by c s (nat_eq c 32) refl h
-
-pub back_on : (s t : Bytes) → s ≡ t ++ (space ∷ []) → reverse (skip_spaces (reverse s)) ≡ reverse (skip_spaces (reverse t))
-back_on s t e = ap (λ u. reverse (skip_spaces u)) (ap reverse e ∙ reverse-append t (space ∷ []))
 
 pub back_none : (s : Bytes) → ((t : Bytes) → s ≢ t ++ (space ∷ [])) → reverse (skip_spaces (reverse s)) ≡ s
 back_none s h =
@@ -107,9 +100,6 @@ some_middle line level = ap (λ k. trimmed (take k (drop level line))) (let z : 
 -- the tests of a heading, in their order
 abbrev heading_by : Bool → Bool → Bool → Bool
 heading_by a b c = a && not b && not c
-
-none_first : (b c : Bool) → heading_by false b c ≡ false
-none_first b c = refl
 
 none_second : (a c : Bool) → heading_by a true c ≡ false
 none_second true c = refl

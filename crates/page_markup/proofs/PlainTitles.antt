@@ -106,10 +106,6 @@ named c s =
     let first : nat_eq 9 (length (template_prefix ++ (c ∷ s))) ≡ false = some_name (length (template_prefix ++ (c ∷ s))) true (omega arith) in
     rw (first, and_never (nat_eq 10 (length (template_prefix ++ (c ∷ s))))) refl
 
-raised_long : (s : Bytes) → length (raised s) ≡ length s
-raised_long [] = refl
-raised_long (c ∷ s) = refl
-
 fits : (s : Bytes) → length s ≤ 246 → nat_lt 255 (length (template_prefix ++ s)) ≡ false
 fits s h = (let l : length (template_prefix ++ s) ≤ 255 = omega (arith, h) in grind (arith, nat_tests))
 
@@ -139,9 +135,6 @@ plain_by (c ∷ s) l few h = plain_cons c s h few
 with_first : (name : Bytes) → 0 < length name → raised name ≡ (if in_range 97 122 (get_or name 0 0) then get_or name 0 0 - 32 else get_or name 0 0) ∷ drop 1 name
 with_first [] l = let no : ⊥ = omega (arith, l) in absurd no
 with_first (c ∷ s) l = refl
-
-pub plain_some : (name : Bytes) → is_plain name ≡ true → 0 < length name
-plain_some name h = some_of (length name) (all_three (nat_lt 0 (length name)) (nat_le (length name) 246) (list_all is_word name) h).0
 
 pub plain_named : (name : Bytes) (first : ℕ) → is_plain name ≡ true → first ≡ (if in_range 97 122 (get_or name 0 0) then get_or name 0 0 - 32 else get_or name 0 0)
     → template_named name ≡ Some (template_prefix ++ (first ∷ drop 1 name))

@@ -8,7 +8,7 @@ use Rattle.page_markup.specs.Marks.{distance, next_place}
 use Rattle.page_markup.proofs.Places.{distance_here, distance_within, place_on}
 use Rattle.page_markup.proofs.Cuts.{begins_one}
 
-differs : (a b : ℕ) → (a ≡ b → ⊥) → nat_eq a b ≡ false
+pub differs : (a b : ℕ) → (a ≡ b → ⊥) → nat_eq a b ≡ false
 differs a b h = grind (arith, nat_tests)
 
 equals : (a b : ℕ) → a ≡ b → nat_eq a b ≡ true

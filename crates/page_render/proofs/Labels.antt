@@ -35,8 +35,5 @@ label_long s n e h =
     let t : 0 < length (drop 1 (drop (distance (codes "|") s) s)) = rw d (omega (arith, h, length-drop 1 (drop n s))) in
     label_cut s l ∙ rw (filled_of (drop 1 (drop (distance (codes "|") s) s)) t) (ap (λ k. drop 1 (drop k s)) d)
 
-pub link_joined : (a b c d : Bytes) (e f : Bytes) → (((a ++ b) ++ c) ++ d) ++ (e ++ f) ≡ ((a ++ (b ++ (c ++ d))) ++ e) ++ f
-link_joined a b c d e f = simp append_assoc
-
 pub three_joined : (old new b u d : Bytes) → new ≡ ((old ++ b) ++ u) ++ d → new ≡ old ++ ((b ++ u) ++ d)
 three_joined old new b u d e = e ∙ (let j : ((old ++ b) ++ u) ++ d ≡ old ++ ((b ++ u) ++ d) = simp append_assoc in j)

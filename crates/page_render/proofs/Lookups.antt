@@ -73,9 +73,6 @@ entered old new pairs place title d l h u =
 pub named : (templates : Templates) (name title : Bytes) → template_named name ≡ Some title → text_named templates name ≡ templates title
 named templates name title e = ap (option_and_then templates) e
 
-pub not_named : (templates : Templates) (name : Bytes) → template_named name ≡ None → text_named templates name ≡ None
-not_named templates name e = ap (option_and_then templates) e
-
 -- rising titles
 rising_by : (pairs : Pairs) → IsRising pairs → (i n : ℕ) (d : Bytes × Bytes) → i + suc n < length pairs → bytes_cmp (get_or pairs i d).0 (get_or pairs (i + suc n) d).0 ≡ Less
 rising_by pairs h i zero d l = h i d l

@@ -1,5 +1,5 @@
 -- Which rule holds at a place.
-use Rattle.std.proofs.Common.{suc, ◌∷◌, length, take, drop, ◌≡◌, ℕ, ◌≤◌, ◌<◌, ◌+◌, ◌-◌, Bool, true, false, refl, arith, ap, sym, ◌∙◌, Some, None, nat_eq, nat_le, get_or}
+use Rattle.std.proofs.Common.{suc, ◌∷◌, length, take, drop, ◌≡◌, ℕ, ◌≤◌, ◌<◌, ◌+◌, ◌-◌, Bool, true, false, refl, arith, ap, sym, ◌∙◌, Some, None, nat_le, get_or}
 use Rattle.std.specs.Prelude.{Option, codes, option_map, option_and_then, if◌then◌else◌, unwrap_or}
 use Rattle.std.proofs.lemmas.Bool.Decides.{nat_tests}
 use Rattle.std.proofs.Math.Seq.{drop-cons}
@@ -9,6 +9,7 @@ use Rattle.wiki_model.specs.Html.{Templates, two, enclosed, bracketed, link, tar
 use Rattle.wiki_model.specs.Html as html
 use Rattle.page_markup.specs.Marks.{link_target}
 use Rattle.page_markup.specs.Within.{between, cut_within}
+use Rattle.page_markup.proofs.Singles.{differs}
 use Rattle.page_render.specs.Use.{IsUse, marked, mark_used, IsIncluded, first_quotes}
 use Rattle.page_render.specs.Templates.{text_named}
 use Rattle.page_render.specs.declared.choice.Use.{Use}
@@ -79,9 +80,6 @@ if_fits at to n close text t (Include template place) h =
     ap (λ x. Some (html.Include x (between (place + 2) to text))) h.0 ∙ ap (λ k. Some (html.Include t (between (k + 2) to text))) h.1
     ∙ fits_by n (between (close + 2) to text) t (nat_le (n + length t) 262144) refl h.2
 
-included_is : (templates : Templates) (n : ℕ) (p : Bytes × Bytes) → include templates n p ≡ fitting n p.1 (text_named templates p.0)
-included_is templates n p = refl
-
 pub template_used : (templates : Templates) (at to n close : ℕ) (text : Bytes) (t : Text) (u : Use) → cut_within 2 at to text (Some close) ≡ bracketed (codes "{{") (codes "}}") (between at to text)
     → text_named templates (between (at + 2) close text) ≡ Some t → IsIncluded t n close u
     → marked at to text u ≡ option_and_then (include templates n) (bracketed (codes "{{") (codes "}}") (between at to text))
@@ -99,16 +97,7 @@ included_use at to n close t (Quotes emphasis place) h a b = absurd h
 included_use at to n close t (Link title place) h a b = absurd h
 included_use at to n close t (Include template place) h a b = (omega (arith, a, h.1), omega (arith, b, h.1), refl, omega (arith, h.2, ap length h.0))
 
-pub any_use : (at to n : ℕ) (reads : Bool) (u : Use) → IsUse at to 0 false u → IsUse at to n reads u
-any_use at to n reads Letter h = tt
-any_use at to n reads (Quotes emphasis place) h = h
-any_use at to n reads (Link title place) h = h
-any_use at to n reads (Include template place) h = let no : ⊥ = (let z : false ≡ true = h.2 in cc) in absurd no
-
 -- the first byte of a place says which rules can hold
-differs : (a b : ℕ) → (a ≡ b → ⊥) → nat_eq a b ≡ false
-differs a b h = grind (arith, nat_tests)
-
 quotes_none : (c : ℕ) (rest : Bytes) → (c ≡ 39 → ⊥) → first_quotes (c ∷ rest) ≡ None
 quotes_none c rest h = rw (differs 39 c (λ e. h (sym e))) refl
 
@@ -181,12 +170,6 @@ template_mark templates n c rest e =
     mark_is templates true n c rest
     ∙ ap (λ q. in_order q (option_and_then link (bracketed (codes "[[") (codes "]]") (c ∷ rest))) t (html.Letter c rest)) (quotes_none c rest (λ x. let no : ⊥ = omega (arith, e, x) in no))
     ∙ ap (λ o. in_order None (option_and_then link o) t (html.Letter c rest)) (links_none c rest (λ x. let no : ⊥ = omega (arith, e, x) in no))
-
-pub unread_mark : (templates : Templates) (n c : ℕ) (rest : Bytes) → c ≡ 123 → mark_at templates false n c rest ≡ html.Letter c rest
-unread_mark templates n c rest e =
-    mark_is templates false n c rest
-    ∙ ap (λ q. in_order q (option_and_then link (bracketed (codes "[[") (codes "]]") (c ∷ rest))) None (html.Letter c rest)) (quotes_none c rest (λ x. let no : ⊥ = omega (arith, e, x) in no))
-    ∙ ap (λ o. in_order None (option_and_then link o) None (html.Letter c rest)) (links_none c rest (λ x. let no : ⊥ = omega (arith, e, x) in no))
 
 pub letter_mark : (templates : Templates) (b : Bool) (n c : ℕ) (rest : Bytes) → (c ≡ 39 → ⊥) → (c ≡ 91 → ⊥) → (c ≡ 123 → ⊥) → mark_at templates b n c rest ≡ html.Letter c rest
 letter_mark templates b n c rest x y z =

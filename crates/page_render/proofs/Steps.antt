@@ -1,7 +1,6 @@
 -- One place of a text read, by what is used there.
 use Rattle.std.proofs.Common.{zero, suc, [], ◌∷◌, ◌++◌, length, take, drop, ◌≡◌, ℕ, ◌≤◌, ◌<◌, ◌+◌, ◌-◌, Bool, true, false, refl, arith, ap, sym, ◌∙◌, nat_lt, get_or, append_assoc, append-nil}
 use Rattle.std.proofs.lemmas.Bool.Decides.{nat_tests}
-use Rattle.std.proofs.Math.Seq.{take-length}
 use Rattle.wiki_model.specs.Bytes.{Bytes, replaced, line_feed, space}
 use Rattle.wiki_model.specs.Html.{Templates, Reader, Reading, mark_at, read_mark, then_rest, inline, escaped, escaped_byte, element}
 use Rattle.wiki_model.specs.Html as html
@@ -21,9 +20,6 @@ unread_text m inner = record { html = []; included = m }
 abbrev pub inside : Templates → ℕ → Reader
 inside templates zero = unread_text
 inside templates (suc depth) = inline templates depth
-
-no_depth : nat_lt 0 0 ≡ false
-no_depth = refl
 
 some_depth : (d : ℕ) → nat_lt 0 (suc d) ≡ true
 some_depth d = grind (arith, nat_tests)
@@ -81,9 +77,6 @@ at_the_end templates depth n at to text h =
 deep : (d : ℕ) → nat_lt 0 d ≡ true → 0 < d
 deep zero e = let no : ⊥ = cc in absurd no
 deep (suc d) e = omega arith
-
-pub whole_text : (len : ℕ) (t : Bytes) → len ≡ length t → between 0 len t ≡ t
-whole_text len t e = ap (λ n. take n t) (let z : len - 0 ≡ length t = omega (arith, e) in z) ∙ take-length t
 
 -- an included text is read by the same call, one template less deep
 inside_part : (templates : Templates) (depth n k : ℕ) (template : Bytes) → 0 < depth → k ≡ n + length template

@@ -204,10 +204,6 @@ all_titles P M N F G titles i h f = subst (λ l. Gathers P M N F G (Contains l))
 pub by_names : (P M N : Templates) (F G : List Text) (named names : List Title) → AreNames named names → Gathers P M N F G (Contains names) → Gathers P M N F G (Contains named)
 by_names P M N F G named names are f = renamed P M N F G (Contains names) (Contains named) (λ t c. (are.same t).0 c) (λ t c. (are.same t).1 c) f
 
--- texts in turn
-pub no_texts : (P M : Templates) (F : List Text) (texts : List Text) → IsPart P M → Gathers P M M F F (IsNamedBy (take 0 texts))
-no_texts P M F texts part = nothing P M F (IsNamedBy (take 0 texts)) part (λ t h. no_element h.text h.one)
-
 pub text_more : (P M N O : Templates) (F G H : List Text) (texts : List Text) (d : Text) (i : ℕ) → i < length texts → d ≡ get_or texts i d → Gathers P M N F G (IsNamedBy (take i texts))
     → Gathers P N O G H (Contains (names_from (in_line d))) → Gathers P M O F H (IsNamedBy (take (i + 1) texts))
 text_more P M N O F G H texts d i h is f one =
@@ -223,9 +219,6 @@ text_more P M N O F G H texts d i h is f one =
     from : (name : Title) (n : IsNamedBy (take (i + 1) texts) name) → Contains (take i texts) n.text ⊎ (n.text ≡ get_or texts i d) → IsNamedBy (take i texts) name ⊎ Contains (names_from (in_line (get_or texts i d))) name
     from name n (inl c) = inl (record { text = n.text; one = c; named = n.named })
     from name n (inr e) = inr (subst (λ x. Contains (names_from (in_line x)) name) e n.named)
-
-pub all_texts : (P M N : Templates) (F G : List Text) (texts : List Text) (i : ℕ) → length texts ≤ i → Gathers P M N F G (IsNamedBy (take i texts)) → Gathers P M N F G (IsNamedBy texts)
-all_texts P M N F G texts i h f = subst (λ l. Gathers P M N F G (IsNamedBy l)) (take_all i texts h) f
 
 -- stages
 pub first_is : (P M N : Templates) (text : Bytes) (G : List Text) → ((name : Title) → M name ≡ None) → Gathers P M N [] G (Contains (names_from text)) → IsStage P text 1 N G
@@ -292,6 +285,3 @@ stage_on P M N text j F G s g = record {
 pub next_is : (P M N : Templates) (text : Bytes) (k : ℕ) (F G : List Text) → 0 < k → IsStage P text k M F → Gathers P M N [] G (IsNamedBy F) → IsStage P text (k + 1) N G
 next_is P M N text zero F G some s g = let no : ⊥ = omega (arith, some) in absurd no
 next_is P M N text (suc j) F G some s g = subst (λ n. IsStage P text n N G) (let z : suc (suc j) ≡ suc j + 1 = omega arith in z) (stage_on P M N text j F G s g)
-
-pub stage_part : (P M : Templates) (text : Bytes) (k : ℕ) (F : List Text) → IsStage P text k M F → IsPart P M
-stage_part P M text k F s = λ t x e. (s.sound t x e).1

@@ -15,9 +15,6 @@ pub record IsBehind (pages : Templates) (stages : ℕ) (text : Bytes) (name : Ti
   pub there : pages via ≡ Some inner
   pub named : Contains (names_from (in_line inner)) name
 
-abbrev pub Through : (pages : Templates) (stages : ℕ) (text : Bytes) (name : Title) → Type 0
-Through pages stages text name = (via : Title) × (inner : Text) × Contains (names_from text) via × (pages via ≡ Some inner) × Reached pages stages (in_line inner) name
-
 pub through : (P : Templates) (n : ℕ) (text : Bytes) (name via : Title) (inner : Text) → Contains (names_from text) via → P via ≡ Some inner → Reached P n (in_line inner) name → Reached P (suc n) text name
 through P n text name via inner c p r = inr (via, inner, c, p, r)
 

@@ -1,11 +1,9 @@
 -- The pairs of a field, piece by piece.
-use Rattle.std.proofs.Common.{◌≡◌, ℕ, suc, ◌+◌, ◌<◌, ◌≤◌, Bool, true, false, cond, ◌==◌, List, [], ◌∷◌, length, take, drop, Some, None, Option, option_map, bytes_eq, nat_lt, refl, sym, ◌∙◌, ap, subst, arith}
-use Rattle.std.specs.Prelude.{find, filter_map, not, codes, option_and_then}
-use Rattle.std.proofs.lemmas.Bool.Decides.{nat_tests}
+use Rattle.std.proofs.Common.{◌≡◌, ℕ, suc, ◌+◌, ◌<◌, ◌≤◌, Bool, true, false, cond, ◌==◌, List, [], ◌∷◌, length, take, drop, Some, None, Option, option_map, bytes_eq, refl, sym, ◌∙◌, ap, subst, arith}
+use Rattle.std.specs.Prelude.{find, filter_map, not}
 use Rattle.std.proofs.lemmas.List.{drop-drop, length-drop}
 use Rattle.wiki_model.specs.Bytes.{Bytes, pieces}
-use Rattle.wiki_model.specs.World.{Cookie}
-use Rattle.wiki_model.specs.Cookies.{Cookies, name_and_value, first_named, is_value, if_good, position_in, cookies_in}
+use Rattle.wiki_model.specs.Cookies.{name_and_value, first_named}
 use Rattle.sticky_routes.specs.Cuts.{before}
 use Rattle.sticky_routes.specs.Named.{value_named}
 use Rattle.std.proofs.lemmas.List.Sums.{prefix_len-le-length}
@@ -20,9 +18,6 @@ pub record Left (name text : Bytes) (at : ℕ) (kept : Option Bytes) : Type 0 wh
   pub within : at ≤ length text + 1
   pub inside : at ≤ length text → first_named text name ≡ option_or kept (named_in name (pieces 59 (drop at text)))
   pub past : length text < at → first_named text name ≡ kept
-
-pub left_all : (name text : Bytes) → Left name text 0 None
-left_all name text = record { within = omega arith; inside = λ _. refl; past = λ h. absurd (omega (arith, h)) }
 
 or_twice : (a b c : Option Bytes) → option_or a (option_or b c) ≡ option_or (option_or a b) c
 or_twice None b c = refl
@@ -96,9 +91,3 @@ read_piece name text rest piece kept after at count h is rest_is count_is piece_
     (subst (λ (o : Option Bytes). Left name text (at + (before 59 (drop at text) + 1)) o)
     (sym (e ∙ ap (λ (p : Bytes). option_or kept (value_named name p)) (same_piece text rest piece at count rest_is count_is piece_is)))
     (passed name text at kept h is))
-
--- the three cookies of a field together
-pub same_cookies : (position : Option Cookie) (use_master no_edge : Bool) (text : Bytes) → position ≡ option_and_then (λ value. if_good (position_in value)) (first_named text (codes "cpPosIndex"))
-    → use_master ≡ is_value (codes "master") (first_named text (codes "UseDC")) → no_edge ≡ is_value (codes "false") (first_named text (codes "UseCDNCache"))
-    → let cookies : Cookies = record { position = position; use_master = use_master; no_edge = no_edge } in cookies ≡ cookies_in text
-same_cookies position use_master no_edge text p m e = rw (p, m, e) refl

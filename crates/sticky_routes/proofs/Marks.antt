@@ -4,14 +4,14 @@ use Rattle.std.specs.Prelude.{codes}
 use Rattle.std.specs.List.{list_all, starts_with}
 use Rattle.std.proofs.Math.Seq.{take-add}
 use Rattle.std.proofs.lemmas.Cmp.{nat_list_eq_equiv}
-use Rattle.std.proofs.lemmas.List.{take-append-drop, drop-drop, drop_all, length-drop, append-nil}
+use Rattle.std.proofs.lemmas.List.{take-append-drop, drop-drop, length-drop}
 use Rattle.std.proofs.lemmas.List.Folds.{list_all-append}
 use Rattle.std.proofs.lemmas.Bool.Decides.{nat_tests}
 use Rattle.std.proofs.lemmas.Slice.Eq.{bytes_eq-Decides}
 use Rattle.wiki_model.specs.Bytes.{Bytes, cut_at}
 use Rattle.wiki_model.specs.Titles.{is_digit}
 use Rattle.wiki_model.specs.Cookies.{with_marks}
-use Rattle.sticky_routes.specs.Cuts.{ReadsAs, HasFirst, IsCut}
+use Rattle.sticky_routes.specs.Cuts.{ReadsAs, HasFirst}
 use Rattle.sticky_routes.proofs.Places.{begins_one}
 
 -- Which byte comes first
@@ -100,20 +100,3 @@ skipped_more mark text at letter width is first apart = record {
       ∙ joined-more is.meant letter (cut_at (mark ∷ []) (with_marks (drop width (drop at text))))
       ∙ ap (λ (t : Bytes). joined (is.meant ++ letter ∷ []) (cut_at (mark ∷ []) (with_marks t))) (drop-drop width at text);
 }
-
-this_letter : (mark : ℕ) (text : Bytes) → cut_at (mark ∷ []) (mark ∷ text) ≡ Some ([], text)
-this_letter mark text = let same : (mark == mark) ≡ true = grind (arith, nat_tests) in rw (begins_one mark mark text, same) refl
-
-pub found_mark : (mark : ℕ) (text : Bytes) (at letter width : ℕ) → Skipped mark text at → HasFirst (drop at text) letter width → letter ≡ mark
-    → IsCut mark text (Some (take at text, drop width (drop at text)))
-found_mark mark text at letter width is first same = (
-  is.meant,
-  is.reads,
-  is.rest
-      ∙ ap (λ (t : Bytes). joined is.meant (cut_at (mark ∷ []) t)) (first.first ∙ ap (λ n. n ∷ with_marks (drop width (drop at text))) same)
-      ∙ ap (joined is.meant) (this_letter mark (with_marks (drop width (drop at text))))
-      ∙ ap (λ (x : Bytes). Some (x, with_marks (drop width (drop at text)))) (append-nil is.meant),
-)
-
-pub no_mark : (mark : ℕ) (text : Bytes) (at : ℕ) → Skipped mark text at → length text ≤ at → IsCut mark text None
-no_mark mark text at is h = is.rest ∙ ap (λ (t : Bytes). joined is.meant (cut_at (mark ∷ []) (with_marks t))) (drop_all at text h)

@@ -1,10 +1,10 @@
 -- A cookie's parts as they stand in the text mean the cookie or refusal that the text means.
-use Rattle.std.proofs.Common.{◌≡◌, ℕ, Bool, true, false, Some, None, Err, refl, sym, ◌∙◌, ap}
+use Rattle.std.proofs.Common.{◌≡◌, ℕ, Bool, true, false, Some, refl, sym, ◌∙◌, ap}
 use Rattle.std.specs.List.{list_all}
 use Rattle.std.proofs.Math.Bool.{and-false}
 use Rattle.wiki_model.specs.Bytes.{Bytes}
 use Rattle.wiki_model.specs.Titles.{is_digit, is_client}
-use Rattle.wiki_model.specs.Cookies.{with_marks, are_digits, is_index, cookie_of_parts, position_in, Form}
+use Rattle.wiki_model.specs.Cookies.{with_marks, are_digits, is_index, cookie_of_parts, position_in}
 use Rattle.sticky_routes.specs.Cuts.{ReadsAs, IsCut}
 use Rattle.sticky_routes.proofs.Clients.{client_same}
 
@@ -34,12 +34,6 @@ client_part index seconds client = by (is_client client) refl
     by : (b : Bool) → is_client client ≡ b → cookie_of_parts (Some (index, seconds, with_marks client)) ≡ cookie_of_parts (Some (index, seconds, client))
     by true e = ap (λ (c : Bytes). cookie_of_parts (Some (index, seconds, c))) ((client_same client).0 e)
     by false e = rw ((client_same client).1 e, e) refl
-
-pub no_first_mark : (text : Bytes) → IsCut 64 text None → position_in text ≡ Err Form
-no_first_mark text e = rw e refl
-
-pub no_second_mark : (text index rest : Bytes) → IsCut 64 text (Some (index, rest)) → IsCut 35 rest None → position_in text ≡ Err Form
-no_second_mark text index rest first second = rw (first.2, second) refl
 
 pub both_marks : (text index rest seconds client : Bytes) → IsCut 64 text (Some (index, rest)) → IsCut 35 rest (Some (seconds, client))
     → cookie_of_parts (Some (index, seconds, client)) ≡ position_in text

@@ -56,11 +56,6 @@ looked-grown id view floor (Interim value) v West = record { more = []; history 
 looked-grown id view floor (Missed why) v Home = record { more = []; history = sym (append-nil v.history); setting = refl; events = refl; moment = omega arith }
 looked-grown id view floor (Missed why) v West = record { more = []; history = sym (append-nil v.history); setting = refl; events = refl; moment = omega arith }
 
-looked-faults : (id : ℕ) (view : OpenView) (floor : Floor) (seen : Found Bytes) (v : World) → (looked id view floor seen v).faults ≡ v.faults
-looked-faults id view floor (Hit value) v = refl
-looked-faults id view floor (Interim value) v = refl
-looked-faults id view floor (Missed why) v = refl
-
 pub look-goes_on : (setting : Setting) (history : List Entry) (faults : ℕ) (opened at : Readings) (turns : List Turn) (w : World) (id : ℕ) (view : OpenView) (floor : Floor) (cache : CacheMap Bytes)
     → IsOpened setting history → IsRun (opening setting history faults opened) turns w → request_at w id ≡ Some (ViewWaited view floor) → CacheStands w view.region cache
     → let v = at_readings at w in

@@ -1,4 +1,4 @@
-use Rattle.std.proofs.Common.{Some, true, false, sym, ◌∙◌}
+use Rattle.std.proofs.Common.{true, false, sym, ◌∙◌}
 use Rattle.std.proofs.Common.{map}
 use Rattle.commit_feed.specs.Shown.{entry_of}
 use Rattle.commit_feed.specs.Places.{by, last_number}
