@@ -1,6 +1,6 @@
 -- The laws that join the others: a run goes on by a look, and a hit is neither unsettled nor stale.
 -- They are what the contracts of a farm's steps cite.
-use Rattle.std.proofs.Common.{◌≡◌, ℕ, ◌≤◌, List, [], ◌∷◌, Bool, false, Some, Option, refl, sym, ap, arith, subst, append-nil}
+use Rattle.std.proofs.Common.{◌≡◌, ℕ, ◌≤◌, List, [], Bool, false, Some, Option, refl, sym, ap, arith, subst, append-nil}
 use Rattle.std.specs.List.{AllByRecursion}
 use Rattle.wiki_model.specs.declared.Region.{Region}
 use Rattle.wiki_model.specs.declared.Region.TheVariants.{Home, West}
@@ -13,7 +13,7 @@ use Rattle.wiki_model.specs.World.{World, Setting, OpenView, Floor, Job, site, m
 use Rattle.wiki_model.specs.World.Request.{ViewWaited}
 use Rattle.wiki_model.specs.HoldOff.{IsSettled, IsNotStale}
 use Rattle.wiki_model.specs.Answers.{Answer}
-use Rattle.wiki_model.specs.Steps.{Step, AtPoint, LookRow, waited_view}
+use Rattle.wiki_model.specs.Steps.{Step, AtPoint, Looks, waited_view}
 use Rattle.wiki_model.specs.Rounds.{IsProperJob, rounded, batch}
 use Rattle.wiki_model.specs.Runs.{Turn, One, Takes, Leads, IsRun, opening, with_faults}
 use Rattle.wiki_model.specs.Consistent.{IsConsistent, IsOpened}
@@ -24,10 +24,10 @@ use Rattle.wiki_model.specs.CacheCalls.{ask_of, look_answer, looked}
 use Rattle.wiki_model.specs.Lent.{IsGivenBack}
 use Rattle.wiki_model.proofs.HoldOffLaws.{hit-settled, hit-not_stale}
 use Rattle.wiki_model.proofs.ConsistentLaws.{readings-keep}
-use Rattle.wiki_model.proofs.RowLaws.{opened-run-keeps, proper-jobs}
+use Rattle.wiki_model.proofs.StepLaws.{opened-run-keeps, proper-jobs}
 use Rattle.wiki_model.proofs.RoundLaws.{round-stands}
 use Rattle.wiki_model.proofs.FrameLaws.{stands-grown}
-use Rattle.wiki_model.proofs.MissLaws.{look-row}
+use Rattle.wiki_model.proofs.MissLaws.{look-allowed}
 use Rattle.wiki_model.proofs.PositionLaws.{positions-grown}
 
 pub round-stands_of_proper : (v : World) (r : Region) (jobs : List Job) (lost : Bool) (answers : List Answer) (old new : CacheMap Bytes) → IsConsistent v → AllByRecursion (IsProperJob v r) jobs → CacheStands v r old
@@ -61,9 +61,9 @@ pub look-goes_on : (setting : Setting) (history : List Entry) (faults : ℕ) (op
     → let v = at_readings at w in
     let seen = look cache view.view.title (moment view.region v) (ask_of v floor.need) in
     let turn : Turn = record { at = at; step = Step.Look id; reply = One (Some (look_answer view.view.title seen)) } in
-    IsRun (opening setting history faults opened) (turn ∷ turns) (looked id view floor seen v) × CacheStands (looked id view floor seen v) view.region cache
+    Leads w turn (looked id view floor seen v) × CacheStands (looked id view floor seen v) view.region cache
 look-goes_on setting history faults opened at turns w id view floor cache o run there stands =
-    ((w, run, record { takes = takes; faults = counts }), stands-grown v (looked id view floor seen v) view.region cache (looked-grown id view floor seen v view.region) stands-v)
+    (record { takes = takes; faults = counts }, stands-grown v (looked id view floor seen v) view.region cache (looked-grown id view floor seen v view.region) stands-v)
   where
     v : World
     v = at_readings at w
@@ -77,8 +77,8 @@ look-goes_on setting history faults opened at turns w id view floor cache o run 
     stands-v : CacheStands (at_readings at w) view.region cache
     stands-v = stands-grown w (at_readings at w) view.region cache (read-grown at w view.region) stands
 
-    row : LookRow id (view, floor) (at_readings at w) (Some (look_answer view.view.title seen)) (looked id view floor seen (at_readings at w))
-    row = look-row id view floor (at_readings at w) cache seen fits stands-v ((readings-keep at w (opened-run-keeps setting history faults opened turns w o run)).requests id (ViewWaited view floor) there) refl
+    row : Looks id (view, floor) (at_readings at w) (Some (look_answer view.view.title seen)) (looked id view floor seen (at_readings at w))
+    row = look-allowed id view floor (at_readings at w) cache seen fits stands-v ((readings-keep at w (opened-run-keeps setting history faults opened turns w o run)).requests id (ViewWaited view floor) there) refl
 
     answer : Option Answer
     answer = Some (look_answer view.view.title seen)
@@ -86,11 +86,11 @@ look-goes_on setting history faults opened at turns w id view floor cache o run 
     takes : Takes (Step.Look id) (at_readings at w) (One (Some (look_answer view.view.title seen))) (with_faults w.faults (looked id view floor seen (at_readings at w)))
     takes = by seen row
       where
-        by : (f : Found Bytes) → LookRow id (view, floor) (at_readings at w) (Some (look_answer view.view.title f)) (looked id view floor f (at_readings at w))
+        by : (f : Found Bytes) → Looks id (view, floor) (at_readings at w) (Some (look_answer view.view.title f)) (looked id view floor f (at_readings at w))
             → Takes (Step.Look id) (at_readings at w) (One (Some (look_answer view.view.title f))) (with_faults w.faults (looked id view floor f (at_readings at w)))
-        by (Hit value) r = subst (λ q. AtPoint (waited_view q) id (at_readings at w) (Some (look_answer view.view.title (Hit value))) (looked id view floor (Hit value) (at_readings at w)) (λ p. LookRow id p (at_readings at w) (Some (look_answer view.view.title (Hit value))) (looked id view floor (Hit value) (at_readings at w)))) (sym there) r
-        by (Interim value) r = subst (λ q. AtPoint (waited_view q) id (at_readings at w) (Some (look_answer view.view.title (Interim value))) (looked id view floor (Interim value) (at_readings at w)) (λ p. LookRow id p (at_readings at w) (Some (look_answer view.view.title (Interim value))) (looked id view floor (Interim value) (at_readings at w)))) (sym there) r
-        by (Missed why) r = subst (λ q. AtPoint (waited_view q) id (at_readings at w) (Some (look_answer view.view.title (Missed why))) (looked id view floor (Missed why) (at_readings at w)) (λ p. LookRow id p (at_readings at w) (Some (look_answer view.view.title (Missed why))) (looked id view floor (Missed why) (at_readings at w)))) (sym there) r
+        by (Hit value) r = subst (λ q. AtPoint (waited_view q) id (at_readings at w) (Some (look_answer view.view.title (Hit value))) (looked id view floor (Hit value) (at_readings at w)) (λ p. Looks id p (at_readings at w) (Some (look_answer view.view.title (Hit value))) (looked id view floor (Hit value) (at_readings at w)))) (sym there) r
+        by (Interim value) r = subst (λ q. AtPoint (waited_view q) id (at_readings at w) (Some (look_answer view.view.title (Interim value))) (looked id view floor (Interim value) (at_readings at w)) (λ p. Looks id p (at_readings at w) (Some (look_answer view.view.title (Interim value))) (looked id view floor (Interim value) (at_readings at w)))) (sym there) r
+        by (Missed why) r = subst (λ q. AtPoint (waited_view q) id (at_readings at w) (Some (look_answer view.view.title (Missed why))) (looked id view floor (Missed why) (at_readings at w)) (λ p. Looks id p (at_readings at w) (Some (look_answer view.view.title (Missed why))) (looked id view floor (Missed why) (at_readings at w)))) (sym there) r
 
     counts : Rattle.wiki_model.specs.Runs.CountsFaults w.faults (looked id view floor seen (at_readings at w)).faults (One (Some (look_answer view.view.title seen)))
     counts = by seen

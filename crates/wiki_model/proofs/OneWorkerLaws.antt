@@ -1,4 +1,4 @@
--- A round of one worker, done job by job, meets its row, and the cache then stands for the world after the round.
+-- A round of one worker, done job by job, is allowed, and the cache then stands for the world after the round.
 -- By induction over the jobs, with a second world in which each earlier job is an event of its own.
 use Rattle.std.proofs.Common.{◌≡◌, ◌≢◌, ℕ, zero, suc, ◌+◌, ◌-◌, ◌≤◌, ◌⊎◌, List, [], ◌∷◌, ◌++◌, Bool, true, false, ◌||◌, Some, None, Option, option_map, refl, sym, ◌∙◌, ap, arith, subst, inl, inr}
 use Rattle.std.specs.Prelude.{filter_map}
@@ -24,7 +24,7 @@ use Rattle.wiki_model.specs.Reuse.{IsQuiet, IsNote, LeavesTitle, LastStored, mat
 use Rattle.wiki_model.specs.Answers.{Answer, PageAnswer, IsSnapshot, IsCached, IsFromCache, IsSoundFromCache, IsSoundFromReplica, HasRaised, HasMaker, HasMark, WasMadeBy, ChosenReplica}
 use Rattle.wiki_model.specs.Answers.Answer.{Page, NoPage}
 use Rattle.wiki_model.specs.Steps.{stored}
-use Rattle.wiki_model.specs.Rounds.{RoundRow, AnswersJobs, IsJobAnswer, IsForcedJob, ComesFrom, JobLeaves, OfMessage, OfPurge, IsProperJob, rounded, received, batch, stored_by, floor_for}
+use Rattle.wiki_model.specs.Rounds.{MakesRound, AnswersJobs, IsJobAnswer, IsForcedJob, ComesFrom, JobLeaves, OfMessage, OfPurge, IsProperJob, rounded, received, batch, stored_by, floor_for}
 use Rattle.wiki_model.specs.Caches.{CacheStands, IsTrueIn, IsRaisedBy, class_check}
 use Rattle.wiki_model.specs.Consistent.{IsConsistent, IsPurge, event_at}
 use Rattle.wiki_model.specs.Changes.{IsEvent}
@@ -33,7 +33,7 @@ use Rattle.wiki_model.specs.OneWorker.{TakesReceipt, PutsValue, KeepsPage, Rende
 use Rattle.wiki_model.proofs.Purged.{issued-once}
 use Rattle.wiki_model.proofs.ConsistentLaws.{event-keeps}
 use Rattle.wiki_model.proofs.ChoiceLaws.{snapshot-reaches}
-use Rattle.wiki_model.proofs.RowLaws.{IsReceivable, proper-jobs, received-moment, received-still}
+use Rattle.wiki_model.proofs.StepLaws.{IsReceivable, proper-jobs, received-moment, received-still}
 use Rattle.wiki_model.proofs.RoundLaws.{received-history, received-setting, received-cases, named-received}
 use Rattle.wiki_model.proofs.FrameLaws.{event-is, if_map, last-cases}
 use Rattle.wiki_model.proofs.PurgeLaws.{purge-stands}
@@ -42,9 +42,9 @@ use Rattle.wiki_model.proofs.LookLaws.{hit-sound, interim-sound, must-hit, must-
 use Rattle.wiki_model.proofs.JobLaws.{IsDuring, must-hit-during, must-show-during, sound-during}
 
 -- What the round's world says of what happened during it.
-record IsGathered (u w : World) (r : Region) : Type 0 where
-  setting : w.setting ≡ u.setting
-  moments : moment r w ≡ moment r u
+pub record IsGathered (u w : World) (r : Region) : Type 0 where
+  pub setting : w.setting ≡ u.setting
+  pub moments : moment r w ≡ moment r u
   receipts : (purge : ℕ) (of : Title) (at : ℕ) → HasReceipt u r purge of at → HasReceipt w r purge of at
   rounds : (b : Batch) → IsIn (Rounded b) (site r u).events → IsIn (Rounded b) (site r w).events
   made : (s : Stored) → WasMadeBy u r s → WasMadeBy w r s
@@ -68,6 +68,7 @@ cached-gathered u w r title p g is = record {
   value = is.value;
   is_true = is.is_true;
   alive = is.alive;
+  epoch = is.epoch;
   source = is.source;
   page = is.page;
   mark = is.mark;
@@ -75,11 +76,12 @@ cached-gathered u w r title p g is = record {
 }
 
 sound-gathered : (u w : World) (r : Region) (title : Title) (floor : Floor) (p : PageAnswer) → IsGathered u w r → IsSoundFromCache u u r title floor p → IsSoundFromCache u w r title floor p
+unfolding cached-gathered
 sound-gathered u w r title floor p g is = record { prefix = is.prefix; reaches = is.reaches; put = is.put; origin = by p.origin is.origin }
   where
     by : (o : Origin) → IsFromCache u u r title p o → IsFromCache u w r title p o
     by Origin.Hit h = record { cached = cached-gathered u w r title p g h.cached; settled = h.settled; not_stale = h.not_stale; recent = h.recent }
-    by Origin.Interim h = record { cached = cached-gathered u w r title p g h.cached; not_lagged = h.not_lagged; recent = h.recent; not_quiet = λ q. h.not_quiet (quiet-gathered u w r title g q) }
+    by Origin.Interim h = record { cached = cached-gathered u w r title p g h.cached; not_lagged = h.not_lagged; young = h.young; recent = h.recent; not_quiet = λ q. h.not_quiet (quiet-gathered u w r title g q) }
     by (Origin.Replica i) h = absurd h
 
 -- The state between two jobs.
@@ -92,9 +94,9 @@ record IsMidway (v w : World) (r : Region) (earlier : List Job) (u : World) (cac
   left : (title : Title) → AllByRecursion (JobLeaves v r title) earlier → AllByRecursion (LeavesTitle v r title) events
   gathered : IsGathered u w r
 
-all-front : {X : Type 0} (P : X → Type 0) (xs ys : List X) → AllByRecursion P (xs ++ ys) → AllByRecursion P xs × AllByRecursion P ys
-all-front P [] ys all = (tt, all)
-all-front P (x ∷ xs) ys all = let rest = all-front P xs ys all.1 in ((all.0, rest.0), rest.1)
+all-prefix : {X : Type 0} (P : X → Type 0) (xs ys : List X) → AllByRecursion P (xs ++ ys) → AllByRecursion P xs × AllByRecursion P ys
+all-prefix P [] ys all = (tt, all)
+all-prefix P (x ∷ xs) ys all = let rest = all-prefix P xs ys all.1 in ((all.0, rest.0), rest.1)
 
 -- a job without an event
 no-event : (v w : World) (r : Region) (earlier : List Job) (job : Job) (u : World) (old new : CacheMap Bytes) → IsMidway v w r earlier u old → new ≡ old → IsMidway v w r (earlier ++ job ∷ []) u new
@@ -104,7 +106,7 @@ no-event v w r earlier job u old new m same = record {
   fits = m.fits;
   stands = subst (CacheStands u r) (sym same) m.stands;
   times = m.times;
-  left = λ title all. m.left title (all-front (JobLeaves v r title) earlier (job ∷ []) all).0;
+  left = λ title all. m.left title (all-prefix (JobLeaves v r title) earlier (job ∷ []) all).0;
   gathered = m.gathered;
 }
 
@@ -156,7 +158,7 @@ one-event v w r earlier job u old new e m fits stands now left g = record {
   fits = fits;
   stands = stands;
   times = λ x there. times x there;
-  left = λ title all. let parts = all-front (JobLeaves v r title) earlier (job ∷ []) all in (left title parts.1.0, m.left title parts.0);
+  left = λ title all. let parts = all-prefix (JobLeaves v r title) earlier (job ∷ []) all in (left title parts.1.0, m.left title parts.0);
   gathered = g;
 }
   where
@@ -252,7 +254,7 @@ rendered-in v r (a ∷ answers) p s (inr there) e = by (stored_by v r a) (render
 abbrev IsRendered : World → World → Region → Title → Answer → Type 0
 IsRendered v w r title answer = (p : PageAnswer) (note : PutNote) → answer ≡ Page p → p.put ≡ Some note → WasMadeBy w r (stored v r p note)
 
-no-page : (history : List Entry) (k : ℕ) (title : Title) (markup : ℕ) → html history k title markup ≡ None → page_text history k title ≡ None
+pub no-page : (history : List Entry) (k : ℕ) (title : Title) (markup : ℕ) → html history k title markup ≡ None → page_text history k title ≡ None
 no-page history k title markup e = by (page_text history k title) e
   where
     by : (o : Option Text) → option_map (html_of_text history k title markup) o ≡ None → o ≡ None
@@ -260,7 +262,7 @@ no-page history k title markup e = by (page_text history k title) e
     by (Some x) e = let no : ⊥ = cc in absurd no
 
 -- the page of a snapshot is sound
-rendered-sound : (v : World) (r : Region) (title : Title) (need word : ℕ) (s : Snapshot) (note : PutNote) (page : Bytes) (i : ℕ) → IsConsistent v → IsSnapshot v r title need word s → ChosenReplica s.choice i
+pub rendered-sound : (v : World) (r : Region) (title : Title) (need word : ℕ) (s : Snapshot) (note : PutNote) (page : Bytes) (i : ℕ) → IsConsistent v → IsSnapshot v r title need word s → ChosenReplica s.choice i
     → html v.history s.upto title v.markup ≡ Some page → IsSoundFromReplica v title (floor_for need) s (answer_of_replica title s i note page)
 rendered-sound v r title need word s note page i fits shot chosen shown = record {
   prefix = record { title_asked = refl; within = (fits.sites r).applied shot.replica.0 s.upto shot.replica.2; page = shown };
@@ -502,7 +504,7 @@ worked v w r earlier (ViewJob title need word ∷ jobs) (answer ∷ answers) u o
     gave last more p of (inr there) is = more p of there is
 
 -- The world of the round.
-round-gathers : (v : World) (r : Region) (jobs : List Job) (answers : List Answer) → AllByRecursion (IsReceivable v) jobs → IsGathered v (rounded r jobs false answers v) r
+pub round-gathers : (v : World) (r : Region) (jobs : List Job) (answers : List Answer) → AllByRecursion (IsReceivable v) jobs → IsGathered v (rounded r jobs false answers v) r
 round-gathers v r jobs answers all = record {
   setting = received-setting r jobs v all;
   moments = (event-is r (Rounded (batch v r jobs false answers)) (received r jobs v)).moment ∙ received-moment r jobs v all;
@@ -586,9 +588,9 @@ stands-after v r jobs answers new all work = record {
     no-last t s (inl x) = let same : Rounded (batch v r jobs false answers) ≡ Kept s = x.0 in cc
     no-last t s (inr x) = x.0
 
--- A round of one worker that does its jobs one after another meets its row, and the cache stands for the world after it.
+-- A round of one worker that does its jobs one after another is allowed, and the cache stands for the world after it.
 pub one_worker-round : (v : World) (r : Region) (jobs : List Job) (answers : List Answer) (old new : CacheMap Bytes) → IsConsistent v → AllByRecursion (IsProperJob v r) jobs → CacheStands v r old
-    → DoesJobs v r jobs answers old new → RoundRow r jobs v (Some answers) (rounded r jobs false answers v) × CacheStands (rounded r jobs false answers v) r new
+    → DoesJobs v r jobs answers old new → MakesRound r jobs v (Some answers) (rounded r jobs false answers v) × CacheStands (rounded r jobs false answers v) r new
 one_worker-round v r jobs answers old new fits proper stands does =
     let all = proper-jobs v r fits jobs proper in
     let w = rounded r jobs false answers v in

@@ -12,7 +12,7 @@ use Rattle.wiki_model.specs.Bytes.{Bytes}
 use Rattle.wiki_model.specs.Titles.{Title, class_of}
 use Rattle.wiki_model.specs.History.{Entry, stamp_at, is_shared_title}
 use Rattle.wiki_model.specs.Cache.{CacheMap, Cached, Ask, Found, Hit, Interim, Missed, Purges, Touches}
-use Rattle.wiki_model.specs.World.{World, OpenView, Floor, Snapshot, with_request, without_request}
+use Rattle.wiki_model.specs.World.{World, OpenView, Floor, Snapshot, Stored, with_request, without_request}
 use Rattle.wiki_model.specs.World.Request.{ViewLooked}
 use Rattle.wiki_model.specs.Answers.{Answer, PageAnswer, is_lagged_choice}
 use Rattle.wiki_model.specs.Answers.Answer.{Page, Miss}
@@ -25,7 +25,8 @@ pub record TakesPurge (old new : CacheMap Bytes) (title : Title) (now : ℕ) : T
   pub stays : is_shared_title title ≡ false → new ≡ mid
 
 -- the value that a snapshot makes
-abbrev pub value_of_snapshot : List Entry → (page : Bytes) → (upto now life : ℕ) → (lagged : Bool) → (markup : ℕ) → Cached Bytes
+abbrev pub value_of_snapshot : List Entry → (page : Bytes) → (upto now life : ℕ) → (lagged : Bool)
+    → (markup : ℕ) → Cached Bytes
 value_of_snapshot history page upto now life lagged markup =
     record { page = page; upto = upto; stamp = stamp_at history upto; set_at = now; life = life; lagged = lagged; version = markup }
 
@@ -43,6 +44,11 @@ IsNoteOf put.Interim lagged note.Interim = Unit {0}
 IsNoteOf (put.Held until) lagged note.Held = Unit {0}
 IsNoteOf put.Memory lagged note.Memory = Unit {0}
 IsNoteOf _ _ _ = ⊥
+
+-- what is told of the put of a value: its store, with this note
+abbrev pub store_of : Title → Cached Bytes → PutNote → Stored
+store_of key value note =
+    record { title = key; at = value.set_at; source = value.upto; note = note; markup = value.version }
 
 -- what a view that needs this number asks of a value
 abbrev pub ask_of : World → (need : ℕ) → Ask

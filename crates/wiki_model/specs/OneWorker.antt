@@ -1,5 +1,5 @@
 -- What a round of one worker does with the cache that is lent to it, job by job.
--- The answers of such jobs meet the row of a round, and the cache then stands for the world after it.
+-- The answers of such jobs are allowed by `MakesRound`, and the cache then stands for the world after it.
 use Rattle.std.specs.Prelude.{ℕ, ◌≡◌, ◌≢◌, ◌⊎◌, true, false, List, [], ◌∷◌, Option, Some, None}
 use Rattle.wiki_model.specs.declared.Region.{Region}
 use Rattle.wiki_model.specs.declared.Put.{Put}
@@ -21,45 +21,61 @@ use Rattle.wiki_model.specs.CacheCalls.{TakesPurge, IsNoteOf, ask_of, look_answe
 
 -- A receipt job: the cache takes the purge.
 abbrev pub TakesReceipt : World → Region → (purge : ℕ) → (old new : CacheMap Bytes) → Type 0
-TakesReceipt v r purge old new = (title : Title) × IsPurge v purge title × TakesPurge old new title (moment r v)
+TakesReceipt v r purge old new =
+    (title : Title) × IsPurge v purge title × TakesPurge old new title (moment r v)
 
 -- the put of a value, and its note
 abbrev pub PutsValue : Title → Cached Bytes → PutNote → (old new : CacheMap Bytes) → Type 0
-PutsValue title value n old new = (answer : Put) × Puts old new title value answer × IsNoteOf answer value.lagged n × (n ≢ note.Memory)
+PutsValue title value n old new =
+    (answer : Put) × Puts old new title value answer × IsNoteOf answer value.lagged n
+    × (n ≢ note.Memory)
 
 -- a page from a snapshot is kept by the set rule
-abbrev pub KeepsPage : SetRule → World → Region → Title → Snapshot → Bytes → PutNote → (old new : CacheMap Bytes) → Type 0
-KeepsPage rule.Whole v r title s page n old new = PutsValue title (value_of_snapshot v.history page s.upto (moment r v) life_whole false v.markup) n old new
-KeepsPage rule.Lagged v r title s page n old new = PutsValue title (value_of_snapshot v.history page s.upto (moment r v) life_lagged true v.markup) n old new
+abbrev pub KeepsPage : SetRule → World → Region → Title → Snapshot → Bytes → PutNote
+    → (old new : CacheMap Bytes) → Type 0
+KeepsPage rule.Whole v r title s page n old new =
+    PutsValue title (value_of_snapshot v.history page s.upto (moment r v) life_whole false v.markup) n old new
+KeepsPage rule.Lagged v r title s page n old new =
+    PutsValue title (value_of_snapshot v.history page s.upto (moment r v) life_lagged true v.markup) n old new
 KeepsPage rule.NoPending v r title s page n old new = (n ≡ note.NoPending) × (new ≡ old)
 KeepsPage rule.NoOld v r title s page n old new = (n ≡ note.NoOld) × (new ≡ old)
 KeepsPage rule.NoMedium v r title s page n old new = (n ≡ note.NoMedium) × (new ≡ old)
 
 -- what is rendered from a snapshot, if it has the page
-abbrev pub Renders : World → Region → Title → Snapshot → Answer → (old new : CacheMap Bytes) → Option Bytes → Type 0
+abbrev pub Renders : World → Region → Title → Snapshot → Answer → (old new : CacheMap Bytes)
+    → Option Bytes → Type 0
 Renders v r title s answer old new None = (answer ≡ NoPage s.upto) × (new ≡ old)
 Renders v r title s answer old new (Some page) =
-    (i : ℕ) × ChosenReplica s.choice i × (n : PutNote) × (answer ≡ Page (answer_of_replica title s i n page))
+    (i : ℕ) × ChosenReplica s.choice i × (n : PutNote)
+    × (answer ≡ Page (answer_of_replica title s i n page))
     × KeepsPage (set_rule s.lag 0 s.pending v.setting.bounds.read_lag) v r title s page n old new
 
 -- A view job: what the look finds is answered, and where it misses, what a snapshot has.
-abbrev pub AnswersFound : World → Region → Title → (need word : ℕ) → Answer → (old new : CacheMap Bytes) → Found Bytes → Type 0
-AnswersFound v r title need word answer old new (Hit value) = (answer ≡ look_answer title (Hit value)) × (new ≡ old)
-AnswersFound v r title need word answer old new (Interim value) = (answer ≡ look_answer title (Interim value)) × (new ≡ old)
+abbrev pub AnswersFound : World → Region → Title → (need word : ℕ) → Answer
+    → (old new : CacheMap Bytes) → Found Bytes → Type 0
+AnswersFound v r title need word answer old new (Hit value) =
+    (answer ≡ look_answer title (Hit value)) × (new ≡ old)
+AnswersFound v r title need word answer old new (Interim value) =
+    (answer ≡ look_answer title (Interim value)) × (new ≡ old)
 AnswersFound v r title need word answer old new (Missed why) =
-    (s : Snapshot) × IsSnapshot v r title need word s × Renders v r title s answer old new (html v.history s.upto title v.markup)
+    (s : Snapshot) × IsSnapshot v r title need word s
+    × Renders v r title s answer old new (html v.history s.upto title v.markup)
 
--- at any view memory may be wanting
-abbrev pub AnswersView : World → Region → Title → (need word : ℕ) → Answer → (old new : CacheMap Bytes) → Type 0
+-- any view may be out of memory
+abbrev pub AnswersView : World → Region → Title → (need word : ℕ) → Answer
+    → (old new : CacheMap Bytes) → Type 0
 AnswersView v r title need word answer old new =
-    ((answer ≡ NoMemory) × (new ≡ old)) ⊎ AnswersFound v r title need word answer old new (look old title (moment r v) (ask_of v need))
+    ((answer ≡ NoMemory) × (new ≡ old))
+    ⊎ AnswersFound v r title need word answer old new (look old title (moment r v) (ask_of v need))
 
 -- The jobs in order, with their answers, lead the cache from old to new.
 abbrev pub DoesJobs : World → Region → List Job → List Answer → (old new : CacheMap Bytes) → Type 0
 DoesJobs v r [] [] old new = new ≡ old
 DoesJobs v r [] (answer ∷ answers) old new = ⊥
 DoesJobs v r (ReceiptJob purge ∷ jobs) answers old new =
-    (mid : CacheMap Bytes) × IsCache mid × TakesReceipt v r purge old mid × DoesJobs v r jobs answers mid new
+    (mid : CacheMap Bytes) × IsCache mid × TakesReceipt v r purge old mid
+    × DoesJobs v r jobs answers mid new
 DoesJobs v r (ViewJob title need word ∷ jobs) [] old new = ⊥
 DoesJobs v r (ViewJob title need word ∷ jobs) (answer ∷ answers) old new =
-    (mid : CacheMap Bytes) × IsCache mid × AnswersView v r title need word answer old mid × DoesJobs v r jobs answers mid new
+    (mid : CacheMap Bytes) × IsCache mid × AnswersView v r title need word answer old mid
+    × DoesJobs v r jobs answers mid new

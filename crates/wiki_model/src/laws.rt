@@ -1,11 +1,18 @@
 //! The laws of the definitions, each as the contract of a function that does nothing, so that its proof is asked for.
 //! They say nothing of the program until a contract cites the definitions that they speak of.
 
-ghost use Rattle.wiki_model.specs.Laws.{PagesArePromised, FloorsAreGiven, RoundPagesArePromised, RunsStayConsistent, RunsOnlyGrow, EntriesKeepHistories, RevisionsAreCounted, UndecidedEditsAreNext, PagesOfPrefixesStay, PurgesAreOfTheirTitle, EmptyCachesStand, GrowthKeepsCaches, PurgesKeepCaches, PutsKeepCaches, StoresKeepCaches, RoundsKeepCaches, OneWorkerRoundsStand, LooksGoOn, HitsAreNotStale, HitsAreSound, InterimAnswersAreSound, StoredPagesAreSound, MissingPagesAreSound, WholeValuesAreTrue, LaggedValuesAreTrue, NotesAreAllowed, NeedsReachOwnEdits, SnapshotsReachTheirNeed, ChoicesAreOne, MomentsKeepPositions, EntriesKeepPositions, HearingKeepsPositions, SharedHitsAreSound, SharedInterimAnswersAreSound, SharedNotesAreAllowed};
+ghost use Rattle.wiki_model.specs.Answered.{ViewsAreAnswered, EditsAreAnswered, BatchesAreAnswered, PagesAreServed, EditsAreServed};
+ghost use Rattle.wiki_model.specs.Generator.{MakesScripts};
+ghost use Rattle.wiki_model.specs.Laws.{MissingRoundPagesArePromised, LooksAreAllowed, MomentsKeepRows, KnownPositionsAreFound, RoundsChangeEvents, CommitsAppend, CommitsArePurgedPromptly, SharedRoundsStand, OpeningsHaveRows, EntriesKeepRows, HearingKeepsRows, SweepingKeepsRows, NeedsAreReached, PagesArePromised, MissingPagesArePromised, FloorsAreGiven, RoundPagesArePromised, RunsStayConsistent, RunsOnlyGrow, EntriesKeepHistories, RevisionsAreCounted, UndecidedEditsAreNext, PagesOfPrefixesStay, PurgesAreOfTheirTitle, EmptyCachesStand, GrowthKeepsCaches, PurgesKeepCaches, PutsKeepCaches, StoresKeepCaches, RoundsKeepCaches, OneWorkerRoundsStand, LooksGoOn, HitsAreNotStale, HitsAreSound, InterimAnswersAreSound, StoredPagesAreSound, MissingPagesAreSound, WholeValuesAreTrue, LaggedValuesAreTrue, NotesAreAllowed, NeedsReachOwnEdits, SnapshotsReachTheirNeed, ChoicesAreOne, MomentsKeepPositions, EntriesKeepPositions, HearingKeepsPositions, SharedHitsAreSound, SharedInterimAnswersAreSound, SharedNotesAreAllowed};
 
-/// Every page that a step of a run answers is as promised: the page of its prefix, with what its session may not miss, and no stale hit.
+/// Every page that a step of a run answers is as promised to the view that the step names: the page of its prefix, with what its session may not miss as it stood at its step `wait`, and no stale hit.
 pub fn pages_are_promised()
     ensures { PagesArePromised }
+{}
+
+/// A step that answers that there is no page does so of a prefix that has none, and misses no more.
+pub fn missing_pages_are_promised()
+    ensures { MissingPagesArePromised }
 {}
 
 /// So is every page that a round answers.
@@ -13,9 +20,19 @@ pub fn round_pages_are_promised()
     ensures { RoundPagesArePromised }
 {}
 
-/// The floor of an open view was given by a turn of its run, at which the view was not behind.
+/// A round that answers that there is no page was asked for one that its prefix does not have, and misses no more.
+pub fn missing_round_pages_are_promised()
+    ensures { MissingRoundPagesArePromised }
+{}
+
+/// The floor of an open view is the one that its own step `wait` gave it, at which it was not behind.
 pub fn floors_are_given()
     ensures { FloorsAreGiven }
+{}
+
+/// What an open view may not miss is reached by a replica of its region, so that a snapshot for it can be taken.
+pub fn needs_are_reached()
+    ensures { NeedsAreReached }
 {}
 
 /// The last world of every run from an opening is consistent.
@@ -28,7 +45,7 @@ pub fn runs_only_grow()
     ensures { RunsOnlyGrow }
 {}
 
-/// An entry that is not before the last, and is the next commit where it is one, keeps the list a history.
+/// An entry that is not before the last, and is the next commit if it is a commit, keeps the list a history.
 pub fn entries_keep_histories()
     ensures { EntriesKeepHistories }
 {}
@@ -53,6 +70,11 @@ pub fn purges_are_of_their_title()
     ensures { PurgesAreOfTheirTitle }
 {}
 
+/// Each commit of a run has a purge that it followed within the commit delay: the one that it names, or the second one of a late commit.
+pub fn commits_are_purged_promptly()
+    ensures { CommitsArePurgedPromptly }
+{}
+
 /// An empty cache stands for a region in which nothing has happened.
 pub fn empty_caches_stand()
     ensures { EmptyCachesStand }
@@ -68,7 +90,7 @@ pub fn purges_keep_caches()
     ensures { PurgesKeepCaches }
 {}
 
-/// What a cache stands for is kept by a put of a true value with its store, whatever the put answers.
+/// What a cache stands for is kept by a put of a true value with its store, whatever the put answers, also that it found no memory.
 pub fn puts_keep_caches()
     ensures { PutsKeepCaches }
 {}
@@ -83,9 +105,14 @@ pub fn rounds_keep_caches()
     ensures { RoundsKeepCaches }
 {}
 
-/// A round of one worker that does its jobs in order meets its row, and its cache stands for the world after it.
+/// A round of one worker that does its jobs in order is allowed, and its cache stands for the world after it.
 pub fn one_worker_rounds_stand()
     ensures { OneWorkerRoundsStand }
+{}
+
+/// Whatever the cache holds, what a look finds in it is an answer that a look may give.
+pub fn looks_are_allowed()
+    ensures { LooksAreAllowed }
 {}
 
 /// Whatever a look of a waited view finds in a cache that stands for its run, the run goes on by it and the cache stands on.
@@ -108,12 +135,12 @@ pub fn interim_answers_are_sound()
     ensures { InterimAnswersAreSound }
 {}
 
-/// A page that is made from a parked snapshot meets the row of a store.
+/// A page that is made from a parked snapshot is an answer that a store may give.
 pub fn stored_pages_are_sound()
     ensures { StoredPagesAreSound }
 {}
 
-/// The answer that a parked snapshot has no page meets the row of a store.
+/// So is the answer that a parked snapshot has no page.
 pub fn missing_pages_are_sound()
     ensures { MissingPagesAreSound }
 {}
@@ -133,7 +160,7 @@ pub fn notes_are_allowed()
     ensures { NotesAreAllowed }
 {}
 
-/// Where a view is not behind and its position is kept, its need reaches its client's last commit.
+/// If a view is not behind and its position is kept, its need reaches its client's last commit.
 pub fn needs_reach_own_edits()
     ensures { NeedsReachOwnEdits }
 {}
@@ -158,9 +185,49 @@ pub fn entries_keep_positions()
     ensures { EntriesKeepPositions }
 {}
 
-/// It stays so where the region hears a position and the store takes it, however late or often.
+/// It stays so when the region hears a position and the store takes it, however late or often.
 pub fn hearing_keeps_positions()
     ensures { HearingKeepsPositions }
+{}
+
+/// The rows of a store of positions, told the young commits of an opening in turn, find what the region knows.
+pub fn openings_have_rows()
+    ensures { OpeningsHaveRows }
+{}
+
+/// They do so over an entry that the region has not heard.
+pub fn entries_keep_rows()
+    ensures { EntriesKeepRows }
+{}
+
+/// They do so when the region hears a position and its row is told, however late or often.
+pub fn hearing_keeps_rows()
+    ensures { HearingKeepsRows }
+{}
+
+/// They do so as moments grow, also when expired rows are forgotten.
+pub fn sweeping_keeps_rows()
+    ensures { SweepingKeepsRows }
+{}
+
+/// They do so while only moments grow.
+pub fn moments_keep_rows()
+    ensures { MomentsKeepRows }
+{}
+
+/// What a store of positions finds at the region's moment is what the region knows.
+pub fn known_positions_are_found()
+    ensures { KnownPositionsAreFound }
+{}
+
+/// A round changes what happened to its region's cache, and nothing else of the world.
+pub fn rounds_change_events()
+    ensures { RoundsChangeEvents }
+{}
+
+/// The world after a commit, late or not: one more entry, which home has heard, and what stays as it was.
+pub fn commits_append()
+    ensures { CommitsAppend }
 {}
 
 /// A hit on a shared cache is sound, whatever other seats do beside it.
@@ -176,4 +243,39 @@ pub fn shared_interim_answers_are_sound()
 /// A note interim or held of a shared cache comes only while a hold-off is running.
 pub fn shared_notes_are_allowed()
     ensures { SharedNotesAreAllowed }
+{}
+
+/// A round of several workers whose jobs answer what their seats may is allowed, and the cache that is given back stands for the world after it.
+pub fn shared_rounds_stand()
+    ensures { SharedRoundsStand }
+{}
+
+/// What the generator makes is a script of the grammar, within its limit, for every seed and up to 100,000 steps.
+pub fn makes_scripts()
+    ensures { MakesScripts }
+{}
+
+/// A whole view ends with one answer: a page of its title, that there is none, how far it is behind, or out of memory.
+pub fn views_are_answered()
+    ensures { ViewsAreAnswered }
+{}
+
+/// A whole edit ends with one answer: what the history says of it, out of memory, or a fault of the keeper, whose count then rose.
+pub fn edits_are_answered()
+    ensures { EditsAreAnswered }
+{}
+
+/// A batch ends with its round's answers, or before its round with how far its view is behind or out of memory.
+pub fn batches_are_answered()
+    ensures { BatchesAreAnswered }
+{}
+
+/// So does a view that is served with the housekeeping before it.
+pub fn pages_are_served()
+    ensures { PagesAreServed }
+{}
+
+/// So does an edit that is served.
+pub fn edits_are_served()
+    ensures { EditsAreServed }
 {}

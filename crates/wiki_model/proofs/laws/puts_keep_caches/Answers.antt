@@ -1,5 +1,5 @@
-use Rattle.wiki_model.proofs.StoreLaws.{put-stands}
+use Rattle.wiki_model.proofs.PutStandsLaws.{puts-stand}
 use Rattle.wiki_model.proofs.laws.puts_keep_caches.Goals as goal
 
 pub returns : goal.returns
-returns c = put-stands
+returns c = puts-stand

@@ -1,5 +1,5 @@
-use Rattle.wiki_model.proofs.StoreRowLaws.{store-row}
+use Rattle.wiki_model.proofs.StoringLaws.{store-allowed}
 use Rattle.wiki_model.proofs.laws.stored_pages_are_sound.Goals as goal
 
 pub returns : goal.returns
-returns c = store-row
+returns c = store-allowed
