@@ -10,8 +10,8 @@ use Rattle.wiki_model.specs.History.{Commit, Numbered, commits_from, commits, nu
 use Rattle.wiki_model.specs.History as model
 use Rattle.wiki_model.specs.Html.{or_else}
 use Rattle.commit_feed.specs.declared.entry.Entry.{Entry}
-use Rattle.commit_feed.specs.Shown.{entry_of}
-use Rattle.commit_feed.specs.Places.{passes, passing, last_number, first_number, number_passing, by, of}
+use Rattle.commit_feed.specs.AsModel.{entry_of}
+use Rattle.commit_feed.specs.Feed.{passes, passing, last_number, first_number, number_passing, by, of}
 
 or_else_none : {A : Type 0} (o : Option A) → or_else o None ≡ o
 or_else_none None = refl

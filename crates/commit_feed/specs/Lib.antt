@@ -1,2 +1,2 @@
-pub mod Shown
-pub mod Places
+pub mod AsModel
+pub mod Feed

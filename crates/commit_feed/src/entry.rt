@@ -1,7 +1,7 @@
-// Entries.
+// What the history is a list of.
 ghost use Rattle.std.specs.Prelude.{◌≡◌};
 ghost use Rattle.wiki_model.specs.History.{stamp_of};
-ghost use Rattle.commit_feed.specs.Shown.{entry_of};
+ghost use Rattle.commit_feed.specs.AsModel.{entry_of};
 
 use farm_base::Moment;
 use wiki_titles::{ClientId, Text, Title, Token};
@@ -9,20 +9,30 @@ use wiki_titles::{ClientId, Text, Title, Token};
 /// An entry of the history: a beat of home's clock, or a commit of one edit.
 #[derive(Clone, Debug, Drop)]
 pub enum Entry {
+    /// Nothing was written; the clock went on.
     Beat {
+        /// When home appended it.
         stamp: Moment,
     },
-    /// `revision` counts the title's commits and `index` the client's, both from 1; `purge` is the number
-    /// of the purge that was issued for the edit, and `base` the revision that the edit was made from.
+    /// An edit that was taken.
     Commit {
+        /// When home appended it.
         stamp: Moment,
+        /// The number of the purge that was issued for the edit.
         purge: u64,
+        /// The page.
         title: Title,
+        /// Which of the title's commits it is, counted from 1.
         revision: u64,
+        /// Who made the edit.
         client: ClientId,
+        /// Which of the client's commits it is, counted from 1.
         index: u64,
+        /// The edit's token. No client has two commits with one token.
         token: Token,
+        /// The revision that the edit was made from.
         base: u64,
+        /// The page's new text.
         text: Text,
     },
 }
@@ -37,12 +47,4 @@ impl Entry {
             Entry::Commit { stamp, .. } => *stamp,
         }
     }
-}
-
-/// How many commits a client has, and the number and stamp of its last one; zeros where it has none.
-#[derive(Clone, Copy, Debug, PartialEq, Eq)]
-pub struct Writes {
-    pub count: u64,
-    pub last: u64,
-    pub stamp: Moment,
 }

@@ -1,14 +1,15 @@
-// The list of entries.
-use crate::places::{count_by, entry_at, first_of, last_by, last_on};
-use crate::{Entry, Writes};
+// The history as a list, and what is asked of it.
+use crate::Entry;
+use crate::find::{count_by, entry_at, first_of, last_by, last_on};
 use farm_base::{Memory, Moment};
 use std::alloc::Global;
 use std::marker::Model;
 use wiki_titles::{ClientId, Title, Token};
 
-/// The history, as the list of its entries, numbered from 1. Contracts see the list.
+/// The history, as the list of its entries, numbered from 1. Contracts see the list, and it is a history at every
+/// moment.
 ///
-/// `latest`, `by_token` and `writes_of` go over the whole list.
+/// [`Feed::latest`], [`Feed::by_token`] and [`Feed::writes_of`] are linear in the entries.
 #[derive(Debug, Drop)]
 pub struct Feed {
     entries: Vec<Entry>,
@@ -17,7 +18,7 @@ pub struct Feed {
 impl Model for Feed {
     ghost use Rattle.std.specs.Prelude.{List, map};
     ghost use Rattle.wiki_model.specs.History.{Entry, IsHistory};
-    ghost use Rattle.commit_feed.specs.Shown.{entry_of};
+    ghost use Rattle.commit_feed.specs.AsModel.{entry_of};
 
     ghost Value = { List Entry };
 
@@ -27,10 +28,10 @@ impl Model for Feed {
 }
 
 impl Feed {
-    ghost use Rattle.std.specs.Prelude.{◌≡◌, ℕ, ◌+◌, ◌^◌, ◌<◌, List, [], ◌∷◌, ◌++◌, ◌==◌, length, option_map, IfOk, OnOk, OnErr};
+    ghost use Rattle.std.specs.Prelude.{◌≡◌, ◌+◌, ◌^◌, ◌<◌, List, [], ◌∷◌, ◌++◌, ◌==◌, length, option_map, IfOk, OnOk, OnErr};
     ghost use Rattle.std.specs.Option.{option_copied};
     ghost use Rattle.wiki_model.specs.History.{IsHistory, entry_at, page, number_of, commit_with_token, count, own, stamp_at};
-    ghost use Rattle.commit_feed.specs.Shown.{entry_of};
+    ghost use Rattle.commit_feed.specs.AsModel.{entry_of};
 
     /// An empty history. It takes no memory.
     pub fn new(alloc: Global) -> Self
@@ -50,13 +51,14 @@ impl Feed {
         self.entries.len() as u64
     }
 
+    /// Whether there is no entry.
     pub fn is_empty(&self) -> bool
         ensures { result ≡ (length self.now == 0) }
     {
         self.entries.is_empty()
     }
 
-    /// Entry `n`, counted from 1.
+    /// Entry `n`, counted from 1; there is none of number 0.
     pub fn entry(&self, n: u64) -> Option<&Entry>
         ensures { option_map entry_of (option_copied result) ≡ entry_at self.now n }
     {
@@ -66,25 +68,23 @@ impl Feed {
         entry_at(&self.entries, n)
     }
 
-    /// Appends an entry that may follow, and answers its number. Without memory the list stays.
+    /// Appends an entry that may follow, and answers its number. If memory runs out, the list stays.
     pub fn push(&mut self, entry: Entry) -> Result<u64, Memory>
         requires { IsHistory (self.old ++ entry_of entry ∷ []) }
         ensures number { IfOk result (λ n. n ≡ length self.old + 1) }
         ensures ok { OnOk result (self.new ≡ self.old ++ entry_of entry ∷ []) }
         ensures err { OnErr result (self.new ≡ self.old) }
     {
-        match self.entries.push(entry) {
-            Ok(()) => Ok(self.entries.len() as u64),
-            Err(_) => Err(Memory),
-        }
+        self.entries.push(entry)?;
+        Ok(self.entries.len() as u64)
     }
 
     /// The number of the last commit on the title among the first `upto` entries.
     pub fn latest(&self, title: &Title, upto: u64) -> Option<u64>
         ensures { result ≡ number_of (page self.now upto title.now) }
     {
-        let (front, _) = self.entries.split_at(self.entries.len().min(upto as usize));
-        last_on(front, title)
+        let (prefix, _) = self.entries.split_at(self.entries.len().min(upto as usize));
+        last_on(prefix, title)
     }
 
     /// The number of the client's commit with this token.
@@ -111,4 +111,15 @@ impl Feed {
             stamp,
         }
     }
+}
+
+/// What a client has committed; zeros if it has nothing.
+#[derive(Clone, Copy, Debug, PartialEq, Eq)]
+pub struct Writes {
+    /// How many commits.
+    pub count: u64,
+    /// The number of the last one's entry.
+    pub last: u64,
+    /// The last one's stamp.
+    pub stamp: Moment,
 }

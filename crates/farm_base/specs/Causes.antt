@@ -7,7 +7,7 @@ use Rattle.wiki_model.specs.Steps.{Rose}
 abbrev pub counted : ℕ → ℕ
 counted n = min (n + 1) (2 ^ 64 - 1)
 
--- a call answers a fault only where the count rose in it, and the count never falls
+-- a call answers a fault only if the count rose in it, and the count never falls
 pub record HasCause {T E : Type 0} (before now : ℕ) (result : Result T E) : Type 0 where
   pub later : before ≤ now
   pub failed : OnErr result (Rose before now)

@@ -1,4 +1,8 @@
-pub mod Shown
+pub mod AsModel
 pub mod Causes
-pub mod Told
-pub mod Held
+pub mod Exposed
+pub mod FailingCalls
+pub mod MemSource
+pub mod MemSink
+pub mod Bytes
+pub mod InputFault

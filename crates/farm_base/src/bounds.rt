@@ -1,17 +1,19 @@
 // How late, how far behind and how far apart the parts of the farm may be for the caches' promises.
-ghost use Rattle.std.specs.Prelude.{◌≡◌, ◌<◌, ◌≤◌, ℕ, IsTrue};
+ghost use Rattle.std.specs.Prelude.{◌≡◌, ◌<◌};
 ghost use Rattle.wiki_model.specs.Limits.{hold_off, default_bounds};
-ghost use Rattle.farm_base.specs.Shown.{bounds_of, are_allowed};
+ghost use Rattle.farm_base.specs.AsModel.{bounds_of, are_allowed};
 
-/// The greatest value of each bound, in milliseconds.
-pub const BOUND_MAX: u32 = 60_000;
+/// The greatest value of each bound: a minute.
+pub const BOUND_MAX: u32 = 60_000; // milliseconds
 
-/// Bounds in milliseconds: how late a commit may follow its purge, how far a replica may lag for its page
-/// to be kept whole, and by how much the clocks of the two regions may differ.
+/// The bounds within which the caches' promises hold.
 #[derive(Clone, Copy, Debug, PartialEq, Eq)]
 pub struct Bounds {
+    /// How late a commit may follow its purge, in milliseconds.
     pub commit_delay: u32,
+    /// How far a replica may lag for its page to be kept whole, in milliseconds.
     pub read_lag: u32,
+    /// By how much the clocks of the two regions may differ, in milliseconds.
     pub skew: u32,
 }
 

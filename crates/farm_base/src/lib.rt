@@ -1,16 +1,39 @@
-//! What every layer shares: the bounds of the caches, small lists and texts for public fields, and the
-//! outside as traits of byte sources and sinks, with forms of both in memory.
+//! The floor that every other crate stands on: errors of memory, small work on bytes, streams of bytes and
+//! their forms in memory, lists for public fields, and the times and bounds of the farm, each written once.
+//!
+//! The idea is in the streams. A program cannot say what a disk or a socket will do, but it can say what it owes
+//! when they fail. So a [`Source`] or a [`Sink`] counts its faults, and an error may be answered only in a call in
+//! which that count rose: whoever shows that no count rose has shown that no call failed. What a stream holds it may
+//! expose to contracts or keep to itself, and [`read_all`] and [`write_all`] promise as much as is exposed. The forms
+//! in memory expose all, and fail the calls whose numbers they were given ([`FailingCalls`]); so a test can make any
+//! call of a program fail, and a good call never counts a fault.
+//!
+//! What a title or a cookie looks like is left to `wiki_titles` and `sticky_routes`, and what the numbers mean to
+//! the definitions of `wiki_model`: here each number is only tied to its definition ([`tied_to_the_rules`]).
+//!
+//! A source over `abc` whose second call fails: `MemSource::new(abc, [2])`. Its first `read` into room for two bytes
+//! answers `Ok(2)` and gives `ab`, the second `Err(OutFault::Failed)`, the third `Ok(1)` and gives `c`.
 #![tactic(auto)]
 
-pub mod bounds;
-pub mod listed;
-pub mod memory;
-pub mod outside;
-pub mod streams;
+mod bounds;
+pub mod bytes;
+mod failing_calls;
+mod lists;
+mod memory;
+mod memory_streams;
+mod read_write;
+mod streams;
+mod times;
 
-pub use bounds::Bounds;
-pub use listed::{Letters, Listed};
-pub use memory::{MemSink, MemSource, SureSink, SureSource};
-pub use outside::{Memory, OutFault, Sink, Source};
-pub use streams::{InputFault, read_all, write_all};
+pub use bounds::{BOUND_MAX, Bounds};
+pub use failing_calls::FailingCalls;
+pub use lists::{Listed, ListedText};
+pub use memory::Memory;
+pub use memory_streams::{MemSink, MemSource, SureSink, SureSource};
+pub use read_write::{InputFault, read_all, write_all};
+pub use streams::{OutFault, Sink, Source};
+pub use times::{
+    BEAT_AFTER, COOKIE_SECONDS, LAG_MAX, LIFE_INTERIM, LIFE_LAGGED, LIFE_WHOLE, MOMENT_MAX,
+    POSITION_LIFE, WAIT_LIMIT, tied_to_the_rules,
+};
 pub use wiki_model::{Moment, Readings, Region};

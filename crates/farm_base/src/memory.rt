@@ -1,229 +1,29 @@
-// Sources and sinks in memory.
-ghost use Rattle.std.specs.Prelude.{◌≡◌, ℕ, ◌+◌, ◌-◌, ◌^◌, ◌<◌, ◌≤◌, min, List, [], take, drop, length, Option, Some, None, IfSome, if◌then◌else◌, IfOk, IsErr, IsErrOf, Contains, ◌↔◌};
-ghost use Rattle.std.specs.Io.{ReadsAtMost};
-ghost use Rattle.std.specs.Io.KnownBytes.{ReadConsumes};
-ghost use Rattle.farm_base.specs.Causes.{HasCause, counted};
-ghost use Rattle.farm_base.specs.Told.{WriteAdds};
-ghost use Rattle.farm_base.specs.Held.{Reader, Writer};
+// The error of a call that fails only when memory is refused.
+use std::alloc::{AllocError, AllocFailed};
+use std::fmt;
 
-use crate::{OutFault, Sink, Source};
-use std::alloc::Global;
-use std::marker::Model;
+/// Out of memory. `?` makes it from the errors of std, and drops what was not stored.
+#[derive(Clone, Copy, Debug, PartialEq, Eq)]
+pub struct Memory;
 
-/// A source over bytes. The calls in its list fail, counted from 1, and no others.
-#[derive(Drop)]
-pub struct MemSource {
-    bytes: Vec<u8>,
-    at: usize,
-    failing: Vec<u64>,
-    calls: u64,
-    faults: u64,
-}
-
-impl Model for MemSource {
-    ghost use Rattle.std.specs.Prelude.{◌≤◌, length, drop};
-    ghost use Rattle.farm_base.specs.Held.{Reader};
-
-    ghost Value = { Reader };
-
-    ghost view = { λ s. record { left = drop s.at s.bytes.items; calls = s.calls; failing = s.failing.items; faults = s.faults } };
-
-    ghost invariant = { λ s. s.at ≤ length s.bytes.items };
-}
-
-impl MemSource {
-    pub fn new(bytes: Vec<u8>, failing: Vec<u64>) -> Self
-        ensures { result ≡ record { left = bytes.items; calls = 0; failing = failing.items; faults = 0 } }
-    {
-        MemSource {
-            bytes,
-            at: 0,
-            failing,
-            calls: 0,
-            faults: 0,
-        }
+impl From<AllocError> for Memory {
+    fn from(_error: AllocError) -> Memory {
+        Memory
     }
 }
 
-// Takes as many of the bytes from a place on as the buffer has room for, and answers how many.
-fn copy_from(bytes: &[u8], at: usize, buf: &mut [u8]) -> usize
-    requires { at ≤ length bytes.now }
-    ensures count { result ≡ min (length buf.old) (length bytes.now - at) }
-    ensures front { take result buf.new ≡ take result (drop at bytes.now) }
-{
-    let count = buf.len().min(bytes.len() - at);
-    buf[..count].copy_from_slice(&bytes[at..at + count]);
-    count
-}
-
-impl Source for MemSource {
-    ghost left = { λ s. Some s.left };
-
-    ghost faults = { λ s. s.faults };
-
-    fn read(&mut self, buf: &mut [u8]) -> Result<usize, OutFault>
-        requires { 0 < length buf.old }
-        ensures bound { ReadsAtMost result buf.new }
-        ensures bytes { ReadConsumes (Some self.old.left) (Some self.new.left) result buf.new }
-        ensures cause { HasCause self.old.faults self.new.faults result }
-        ensures fails { IsErr result ↔ Contains self.old.failing (counted self.old.calls) }
-        ensures most { IfOk result (λ n. n ≡ min (length buf.old) (length self.old.left)) }
-        ensures calls { self.new.calls ≡ counted self.old.calls }
-        ensures failing { self.new.failing ≡ self.old.failing }
-    {
-        self.calls = self.calls.saturating_add(1);
-        if self.failing.contains(&self.calls) {
-            self.faults = self.faults.saturating_add(1);
-            return Err(OutFault::Failed);
-        }
-        let count = copy_from(&self.bytes, self.at, buf);
-        self.at += count;
-        Ok(count)
+impl<T: Drop> From<AllocFailed<T>> for Memory {
+    fn from(_failed: AllocFailed<T>) -> Memory {
+        Memory
     }
 }
 
-/// A source over bytes, of which no read fails.
-#[derive(Drop)]
-pub struct SureSource {
-    bytes: Vec<u8>,
-    at: usize,
-}
+impl fmt::Display for Memory {
+    ghost use Rattle.std.specs.Prelude.{Some, codes};
 
-impl Model for SureSource {
-    ghost use Rattle.std.specs.Prelude.{ℕ, List, ◌≤◌, length, drop};
+    ghost output = { λ _. Some (codes "out of memory") };
 
-    ghost Value = { List ℕ };
-
-    ghost view = { λ s. drop s.at s.bytes.items };
-
-    ghost invariant = { λ s. s.at ≤ length s.bytes.items };
-}
-
-impl SureSource {
-    pub fn new(bytes: Vec<u8>) -> Self
-        ensures { result ≡ bytes.items }
-    {
-        SureSource { bytes, at: 0 }
-    }
-}
-
-impl Source for SureSource {
-    ghost left = { λ s. Some s };
-
-    ghost faults = { λ _. 0 };
-
-    fn read(&mut self, buf: &mut [u8]) -> Result<usize, OutFault> {
-        let count = copy_from(&self.bytes, self.at, buf);
-        self.at += count;
-        Ok(count)
-    }
-}
-
-/// A sink that keeps what is written. The calls in its list fail, counted from 1, and besides only one
-/// for which no memory was left.
-#[derive(Drop)]
-pub struct MemSink {
-    bytes: Vec<u8>,
-    failing: Vec<u64>,
-    calls: u64,
-    faults: u64,
-}
-
-impl Model for MemSink {
-    ghost use Rattle.farm_base.specs.Held.{Writer};
-
-    ghost Value = { Writer };
-
-    ghost view = { λ s. record { written = s.bytes.items; calls = s.calls; failing = s.failing.items; faults = s.faults } };
-}
-
-impl MemSink {
-    pub fn new(alloc: Global, failing: Vec<u64>) -> Self
-        ensures { result ≡ record { written = []; calls = 0; failing = failing.items; faults = 0 } }
-    {
-        MemSink {
-            bytes: Vec::new(alloc),
-            failing,
-            calls: 0,
-            faults: 0,
-        }
-    }
-
-    /// What was written.
-    pub fn bytes(&self) -> &[u8]
-        ensures { result.now ≡ self.now.written }
-    {
-        self.bytes.as_slice()
-    }
-}
-
-impl Sink for MemSink {
-    ghost written = { λ s. Some s.written };
-
-    ghost faults = { λ s. s.faults };
-
-    fn write(&mut self, piece: &[u8]) -> Result<usize, OutFault>
-        requires { 0 < length piece.now }
-        ensures some { IfOk result (λ n. 0 < n) }
-        ensures bound { IfOk result (λ n. n ≤ length piece.now) }
-        ensures bytes { WriteAdds (Some self.old.written) (Some self.new.written) result piece.now }
-        ensures cause { HasCause self.old.faults self.new.faults result }
-        ensures fails { Contains self.old.failing (counted self.old.calls) → IsErr result }
-        ensures whole { IfOk result (λ n. n ≡ length piece.now) }
-        ensures calls { self.new.calls ≡ counted self.old.calls }
-        ensures failing { self.new.failing ≡ self.old.failing }
-    {
-        self.calls = self.calls.saturating_add(1);
-        if self.failing.contains(&self.calls) || self.bytes.extend_from_slice(piece).is_err() {
-            self.faults = self.faults.saturating_add(1);
-            return Err(OutFault::Failed);
-        }
-        Ok(piece.len())
-    }
-}
-
-/// A sink that keeps what is written, of which no write fails. Once no memory is left it tells its bytes no more.
-#[derive(Drop)]
-pub struct SureSink {
-    bytes: Vec<u8>,
-    whole: bool,
-}
-
-impl Model for SureSink {
-    ghost use Rattle.std.specs.Prelude.{ℕ, List, Option, Some, None, if◌then◌else◌};
-
-    ghost Value = { Option (List ℕ) };
-
-    ghost view = { λ s. if s.whole then Some s.bytes.items else None };
-}
-
-impl SureSink {
-    pub fn new(alloc: Global) -> Self
-        ensures { result ≡ Some [] }
-    {
-        SureSink {
-            bytes: Vec::new(alloc),
-            whole: true,
-        }
-    }
-
-    /// What was written, where the sink tells it.
-    pub fn bytes(&self) -> &[u8]
-        ensures { IfSome self.now (λ bytes. result.now ≡ bytes) }
-    {
-        self.bytes.as_slice()
-    }
-}
-
-impl Sink for SureSink {
-    ghost written = { λ s. s };
-
-    ghost faults = { λ _. 0 };
-
-    fn write(&mut self, piece: &[u8]) -> Result<usize, OutFault> {
-        if self.bytes.extend_from_slice(piece).is_err() {
-            self.whole = false;
-        }
-        Ok(piece.len())
+    fn fmt<W: fmt::Write>(&self, f: &mut fmt::Formatter<W>) -> fmt::Result {
+        f.write_str("out of memory")
     }
 }

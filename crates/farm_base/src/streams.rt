@@ -1,60 +1,59 @@
-// Whole streams.
-ghost use Rattle.std.specs.Prelude.{◌≡◌, ◌≤◌, ◌<◌, ◌+◌, ◌^◌, ℕ, length, IfOk, OnOk, OnErr, IsErrOf};
-ghost use Rattle.wiki_model.specs.Steps.{Rose};
+// Where bytes come from and go to: the traits, and the one fault of a call.
+ghost use Rattle.std.specs.Prelude.{ℕ, ◌<◌, ◌≤◌, List, length, IfOk};
+ghost use Rattle.std.specs.declared.option.Option.{Option};
+ghost use Rattle.std.specs.Io.{ReadsAtMost};
+ghost use Rattle.std.specs.Io.KnownBytes.{ReadConsumes};
 ghost use Rattle.farm_base.specs.Causes.{HasCause};
-ghost use Rattle.farm_base.specs.Told.{Adds, AddsFront, ReadsAll};
+ghost use Rattle.farm_base.specs.Exposed.{WriteAdds};
 
-use crate::{OutFault, Sink, Source};
-use std::alloc::Global;
+use std::fmt;
 
-/// Why a source was not read to its end.
+/// Where bytes come from. It may expose the bytes that are left, and it counts its faults.
+pub trait Source {
+    /// The bytes that are left, if the source exposes them.
+    ghost left: { Self → Option (List ℕ) };
+
+    /// How often a read has failed. It never falls.
+    ghost faults: { Self → ℕ };
+
+    /// Fills a prefix of the buffer with the next bytes and answers how many; 0 is the end of input.
+    fn read(&mut self, buf: &mut [u8]) -> Result<usize, OutFault>
+        requires { 0 < length buf.old }
+        ensures bound { ReadsAtMost result buf.new }
+        ensures bytes { ReadConsumes (left self.old) (left self.new) result buf.new }
+        ensures cause { HasCause (faults self.old) (faults self.new) result };
+}
+
+/// Where bytes go. It may expose the bytes written so far, or cease to for good, and it counts its faults.
+pub trait Sink {
+    /// The bytes written, if the sink exposes them.
+    ghost written: { Self → Option (List ℕ) };
+
+    /// How often a write has failed. It never falls.
+    ghost faults: { Self → ℕ };
+
+    /// Writes a prefix of the piece, of one byte at least, and answers its length.
+    fn write(&mut self, piece: &[u8]) -> Result<usize, OutFault>
+        requires { 0 < length piece.now }
+        ensures some { IfOk result (λ n. 0 < n) }
+        ensures bound { IfOk result (λ n. n ≤ length piece.now) }
+        ensures bytes { WriteAdds (written self.old) (written self.new) result piece.now }
+        ensures cause { HasCause (faults self.old) (faults self.new) result };
+}
+
+/// A call of a stream that failed. It may have failed only if the stream's count of faults rose in it.
 #[derive(Clone, Copy, Debug, PartialEq, Eq)]
-pub enum InputFault {
+pub enum OutFault {
+    /// The read or the write failed.
     Failed,
-    Memory,
 }
 
-/// Writes all of the bytes, or a front of them where a write fails.
-pub fn write_all<O: Sink>(sink: &mut O, bytes: &[u8]) -> Result<(), OutFault>
-    ensures ok { OnOk result (Adds (O.written sink.old) (O.written sink.new) bytes.now) }
-    ensures front { AddsFront (O.written sink.old) (O.written sink.new) bytes.now }
-    ensures cause { HasCause (O.faults sink.old) (O.faults sink.new) result }
-{
-    let mut done = 0;
-    while done < bytes.len() {
-        let (_, rest) = bytes.split_at(done);
-        let count = sink.write(rest)?;
-        done += count;
-    }
-    Ok(())
-}
+impl fmt::Display for OutFault {
+    ghost use Rattle.std.specs.Prelude.{Some, codes};
 
-/// Reads all that is left, or one byte more than the limit where there is as much.
-pub fn read_all<I: Source>(
-    alloc: Global,
-    limit: usize,
-    source: &mut I,
-) -> Result<Vec<u8>, InputFault>
-    requires { limit < 2 ^ 32 }
-    ensures length { IfOk result (λ v. length v.items ≤ limit + 1) }
-    ensures all { IfOk result (λ v. ReadsAll limit (I.left source.old) (I.left source.new) v.items) }
-    ensures later { I.faults source.old ≤ I.faults source.new }
-    ensures failed { IsErrOf result InputFault.Failed → Rose (I.faults source.old) (I.faults source.new) }
-{
-    let mut bytes = Vec::new(alloc);
-    let mut buf = [0u8; 4096];
-    while bytes.len() <= limit {
-        let room = buf.len().min(limit + 1 - bytes.len());
-        let Ok(count) = source.read(&mut buf[..room]) else {
-            return Err(InputFault::Failed);
-        };
-        if count == 0 {
-            return Ok(bytes);
-        }
-        let (front, _) = buf.split_at(count);
-        if bytes.extend_from_slice(front).is_err() {
-            return Err(InputFault::Memory);
-        }
+    ghost output = { λ _. Some (codes "the stream failed") };
+
+    fn fmt<W: fmt::Write>(&self, f: &mut fmt::Formatter<W>) -> fmt::Result {
+        f.write_str("the stream failed")
     }
-    Ok(bytes)
 }

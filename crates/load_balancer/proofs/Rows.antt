@@ -1,4 +1,4 @@
--- Running sums of shares, and the best row of a front.
+-- Running sums of shares, and the best row of a prefix.
 use Rattle.std.proofs.Common.{◌≡◌, ℕ, zero, suc, ◌+◌, ◌<◌, ◌≤◌, List, [], ◌∷◌, length, get_or, Some, refl, sym, ◌∙◌, ap, arith, subst, take, sum}
 use Rattle.std.specs.Prelude.{slice_get, All}
 use Rattle.std.proofs.lemmas.List.Sums.{sum_by_more}
@@ -7,7 +7,7 @@ use Rattle.std.proofs.lemmas.List.Elements.{All-more, All-weaker}
 use Rattle.wiki_model.specs.Balance as model
 use Rattle.wiki_model.specs.Balance.{IsMostApplied, share, shares}
 use Rattle.load_balancer.specs.declared.Row.{Row}
-use Rattle.load_balancer.specs.Rows.{row_of, rows_of}
+use Rattle.load_balancer.specs.AsModel.{row_of, rows_of}
 
 -- one more row adds its share
 pub share_more : (need : ℕ) (rows : List Row) (i : ℕ) (d : Row) → i < length rows

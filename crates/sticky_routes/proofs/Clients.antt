@@ -10,7 +10,7 @@ use Rattle.std.proofs.lemmas.Slice.Eq.{bytes_eq-Decides}
 use Rattle.wiki_model.specs.Bytes.{Bytes}
 use Rattle.wiki_model.specs.Titles.{is_digit, in_range, is_client}
 use Rattle.wiki_model.specs.Cookies.{with_marks}
-use Rattle.wiki_titles.specs.Readings.{client_of}
+use Rattle.wiki_titles.specs.ClientId.{client_of}
 
 abbrev pub is_low_hex : ℕ → Bool
 is_low_hex c = is_digit c || in_range 97 102 c
@@ -48,9 +48,9 @@ marks_same (a ∷ b ∷ c ∷ text) = by (bytes_eq (a ∷ b ∷ c ∷ []) (codes
     no_digit : a ≡ 37 → list_all is_low_hex (a ∷ b ∷ c ∷ text) ≡ false
     no_digit e = rw e refl
 
-    escaped : a ≡ 37 → (letter : ℕ) → is_low_hex letter ≡ false → with_marks (a ∷ b ∷ c ∷ text) ≡ letter ∷ with_marks text
+    escaped : a ≡ 37 → (byte : ℕ) → is_low_hex byte ≡ false → with_marks (a ∷ b ∷ c ∷ text) ≡ byte ∷ with_marks text
         → (list_all is_low_hex (a ∷ b ∷ c ∷ text) ≡ true → with_marks (a ∷ b ∷ c ∷ text) ≡ a ∷ b ∷ c ∷ text) × (list_all is_low_hex (with_marks (a ∷ b ∷ c ∷ text)) ≡ list_all is_low_hex (a ∷ b ∷ c ∷ text))
-    escaped e letter apart is = (λ all. (let never : true ≡ false = sym all ∙ no_digit e in let no : ⊥ = cc in absurd no), ap (list_all is_low_hex) is ∙ rw apart refl ∙ sym (no_digit e))
+    escaped e byte apart is = (λ all. (let never : true ≡ false = sym all ∙ no_digit e in let no : ⊥ = cc in absurd no), ap (list_all is_low_hex) is ∙ rw apart refl ∙ sym (no_digit e))
 
     by : (s t : Bool) → bytes_eq (a ∷ b ∷ c ∷ []) (codes "%40") ≡ s → bytes_eq (a ∷ b ∷ c ∷ []) (codes "%23") ≡ t
         → (list_all is_low_hex (b ∷ c ∷ text) ≡ true → with_marks (b ∷ c ∷ text) ≡ b ∷ c ∷ text) × (list_all is_low_hex (with_marks (b ∷ c ∷ text)) ≡ list_all is_low_hex (b ∷ c ∷ text))

@@ -1,9 +1,6 @@
-pub mod Places
-pub mod Spaces
 pub mod Marks
 pub mod Parts
 pub mod Clients
 pub mod Fields
-pub mod Lines
-pub mod Numbers
 pub mod RoundTrip
+pub mod SetValues

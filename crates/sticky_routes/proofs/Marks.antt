@@ -1,4 +1,4 @@
--- A text whose marks may be escapes, read from the front.
+-- A text whose marks may be escapes, read from the start.
 use Rattle.std.proofs.Common.{◌≡◌, ℕ, ◌+◌, ◌<◌, ◌≤◌, Bool, true, false, ◌&&◌, ◌==◌, [], ◌∷◌, ◌++◌, length, take, drop, get_or, Some, None, Option, option_map, nat_eq, bytes_eq, refl, sym, ◌∙◌, ap, subst, arith, append_assoc}
 use Rattle.std.specs.Prelude.{codes}
 use Rattle.std.specs.List.{list_all, starts_with}
@@ -11,19 +11,19 @@ use Rattle.std.proofs.lemmas.Slice.Eq.{bytes_eq-Decides}
 use Rattle.wiki_model.specs.Bytes.{Bytes, cut_at}
 use Rattle.wiki_model.specs.Titles.{is_digit}
 use Rattle.wiki_model.specs.Cookies.{with_marks}
-use Rattle.sticky_routes.specs.Cuts.{ReadsAs, HasFirst}
-use Rattle.sticky_routes.proofs.Places.{begins_one}
+use Rattle.sticky_routes.specs.Escapes.{ReadsAs, HasFirst}
+use Rattle.farm_base.proofs.Places.{begins_one}
 
 -- Which byte comes first
 
 split_three : (text needle : Bytes) → length needle ≡ 3 → starts_with nat_eq text needle ≡ true → text ≡ needle ++ drop 3 text
 split_three text needle three e =
-    let front : bytes_eq needle (take 3 text) ≡ true = subst (λ n. bytes_eq needle (take n text) ≡ true) three e in
-    let same : needle ≡ take 3 text = (bytes_eq-Decides needle (take 3 text)).0 front in
+    let prefix : bytes_eq needle (take 3 text) ≡ true = subst (λ n. bytes_eq needle (take n text) ≡ true) three e in
+    let same : needle ≡ take 3 text = (bytes_eq-Decides needle (take 3 text)).0 prefix in
     sym (take-append-drop 3 text) ∙ ap (λ (t : Bytes). t ++ drop 3 text) (sym same)
 
-escape : (letter a b : ℕ) (rest : Bytes) → with_marks (37 ∷ a ∷ b ∷ rest) ≡ letter ∷ with_marks rest → is_digit letter ≡ false → HasFirst (37 ∷ a ∷ b ∷ rest) letter 3
-escape letter a b rest e apart = record {
+escape : (byte a b : ℕ) (rest : Bytes) → with_marks (37 ∷ a ∷ b ∷ rest) ≡ byte ∷ with_marks rest → is_digit byte ≡ false → HasFirst (37 ∷ a ∷ b ∷ rest) byte 3
+escape byte a b rest e apart = record {
   some = omega arith;
   within = omega arith;
   first = e;
@@ -52,8 +52,8 @@ first_plain (a ∷ b ∷ c ∷ rest) h at hash =
 -- What was passed over
 
 abbrev pub joined : Bytes → Option (Bytes × Bytes) → Option (Bytes × Bytes)
-joined front None = None
-joined front (Some parts) = Some (front ++ parts.0, parts.1)
+joined prefix None = None
+joined prefix (Some parts) = Some (prefix ++ parts.0, parts.1)
 
 -- up to this place the text means no mark
 pub record Skipped (mark : ℕ) (text : Bytes) (at : ℕ) : Type 0 where
@@ -80,23 +80,23 @@ reads-append a b c d first second = record {
     by true false e f all = let never : true ≡ false = sym all ∙ rw (e, f) refl in let no : ⊥ = cc in absurd no
     by false t e f all = let never : true ≡ false = sym all ∙ rw e refl in let no : ⊥ = cc in absurd no
 
-joined-more : (front : Bytes) (letter : ℕ) (o : Option (Bytes × Bytes)) → joined front (option_map (λ p. (letter ∷ p.0, p.1)) o) ≡ joined (front ++ letter ∷ []) o
-joined-more front letter None = refl
-joined-more front letter (Some parts) = ap (λ (x : Bytes). Some (x, parts.1)) (sym (append_assoc front (letter ∷ []) parts.0))
+joined-more : (prefix : Bytes) (byte : ℕ) (o : Option (Bytes × Bytes)) → joined prefix (option_map (λ p. (byte ∷ p.0, p.1)) o) ≡ joined (prefix ++ byte ∷ []) o
+joined-more prefix byte None = refl
+joined-more prefix byte (Some parts) = ap (λ (x : Bytes). Some (x, parts.1)) (sym (append_assoc prefix (byte ∷ []) parts.0))
 
-other_letter : (mark letter : ℕ) (text : Bytes) → (letter ≡ mark → ⊥) → cut_at (mark ∷ []) (letter ∷ text) ≡ option_map (λ p. (letter ∷ p.0, p.1)) (cut_at (mark ∷ []) text)
-other_letter mark letter text apart =
-    let other : (letter == mark) ≡ false = grind (arith, nat_tests, apart) in
-    rw (begins_one mark letter text, other) refl
+other_byte : (mark byte : ℕ) (text : Bytes) → (byte ≡ mark → ⊥) → cut_at (mark ∷ []) (byte ∷ text) ≡ option_map (λ p. (byte ∷ p.0, p.1)) (cut_at (mark ∷ []) text)
+other_byte mark byte text apart =
+    let other : (byte == mark) ≡ false = grind (arith, nat_tests, apart) in
+    rw (begins_one mark byte text, other) refl
 
-pub skipped_more : (mark : ℕ) (text : Bytes) (at letter width : ℕ) → Skipped mark text at → HasFirst (drop at text) letter width → (letter ≡ mark → ⊥) → Skipped mark text (at + width)
-skipped_more mark text at letter width is first apart = record {
+pub skipped_more : (mark : ℕ) (text : Bytes) (at byte width : ℕ) → Skipped mark text at → HasFirst (drop at text) byte width → (byte ≡ mark → ⊥) → Skipped mark text (at + width)
+skipped_more mark text at byte width is first apart = record {
   within = let e = length-drop at text in let w = first.within in let v = is.within in omega (arith, e, w, v);
-  meant = is.meant ++ letter ∷ [];
-  reads = subst (ReadsAs (is.meant ++ letter ∷ [])) (sym (take-add at width text)) (reads-append is.meant (take at text) (letter ∷ []) (take width (drop at text)) is.reads first.reads);
+  meant = is.meant ++ byte ∷ [];
+  reads = subst (ReadsAs (is.meant ++ byte ∷ [])) (sym (take-add at width text)) (reads-append is.meant (take at text) (byte ∷ []) (take width (drop at text)) is.reads first.reads);
   rest = is.rest
       ∙ ap (λ (t : Bytes). joined is.meant (cut_at (mark ∷ []) t)) first.first
-      ∙ ap (joined is.meant) (other_letter mark letter (with_marks (drop width (drop at text))) apart)
-      ∙ joined-more is.meant letter (cut_at (mark ∷ []) (with_marks (drop width (drop at text))))
-      ∙ ap (λ (t : Bytes). joined (is.meant ++ letter ∷ []) (cut_at (mark ∷ []) (with_marks t))) (drop-drop width at text);
+      ∙ ap (joined is.meant) (other_byte mark byte (with_marks (drop width (drop at text))) apart)
+      ∙ joined-more is.meant byte (cut_at (mark ∷ []) (with_marks (drop width (drop at text))))
+      ∙ ap (λ (t : Bytes). joined (is.meant ++ byte ∷ []) (cut_at (mark ∷ []) (with_marks t))) (drop-drop width at text);
 }

@@ -5,7 +5,7 @@ use Rattle.std.proofs.Math.Bool.{and-false}
 use Rattle.wiki_model.specs.Bytes.{Bytes}
 use Rattle.wiki_model.specs.Titles.{is_digit, is_client}
 use Rattle.wiki_model.specs.Cookies.{with_marks, are_digits, is_index, cookie_of_parts, position_in}
-use Rattle.sticky_routes.specs.Cuts.{ReadsAs, IsCut}
+use Rattle.sticky_routes.specs.Escapes.{ReadsAs, IsCut}
 use Rattle.sticky_routes.proofs.Clients.{client_same}
 
 no_digits : (most : ℕ) (text : Bytes) → list_all is_digit text ≡ false → are_digits most text ≡ false

@@ -11,7 +11,7 @@ use Rattle.wiki_model.specs.Bytes.{Bytes, cut_at}
 use Rattle.wiki_model.specs.Titles.{is_digit}
 use Rattle.wiki_model.specs.World.{Cookie}
 use Rattle.wiki_model.specs.Cookies.{are_digits, number_in, is_index, with_marks, three_parts, cookie_of_parts, position_in, position_text, ReadsItsText}
-use Rattle.sticky_routes.proofs.Places.{begins_one}
+use Rattle.farm_base.proofs.Places.{begins_one}
 use Rattle.sticky_routes.proofs.Clients.{is_low_hex, both_true, client_digits}
 
 weaker : (p q : ℕ → Bool) (text : Bytes) → ((c : ℕ) → p c ≡ true → q c ≡ true) → list_all p text ≡ true → list_all q text ≡ true
@@ -38,13 +38,13 @@ plain (a ∷ b ∷ c ∷ text) all = other (nat_eq a 37) refl both.0 (plain (b �
     other false e isnt rest = rw e (ap (λ (t : Bytes). a ∷ t) rest)
 
 -- a text is cut at the first mark
-cut_behind : (mark : ℕ) (front rest : Bytes) → list_all (is_no mark) front ≡ true → cut_at (mark ∷ []) (front ++ mark ∷ rest) ≡ Some (front, rest)
-cut_behind mark [] rest all = let same : (mark == mark) ≡ true = grind (arith, nat_tests) in rw (begins_one mark mark rest, same) refl
-cut_behind mark (c ∷ front) rest all =
-    let both = both_true (is_no mark c) (list_all (is_no mark) front) all in
+cut_after : (mark : ℕ) (prefix rest : Bytes) → list_all (is_no mark) prefix ≡ true → cut_at (mark ∷ []) (prefix ++ mark ∷ rest) ≡ Some (prefix, rest)
+cut_after mark [] rest all = let same : (mark == mark) ≡ true = grind (arith, nat_tests) in rw (begins_one mark mark rest, same) refl
+cut_after mark (c ∷ prefix) rest all =
+    let both = both_true (is_no mark c) (list_all (is_no mark) prefix) all in
     let here = both.0 in
     let other : (c == mark) ≡ false = grind (arith, nat_tests, here) in
-    rw (begins_one mark c (front ++ mark ∷ rest), other, cut_behind mark front rest both.1) refl
+    rw (begins_one mark c (prefix ++ mark ∷ rest), other, cut_after mark prefix rest both.1) refl
 
 -- Decimals
 
@@ -107,10 +107,10 @@ reads_its_text cookie some index seconds client =
     meant = ap with_marks (regrouped cookie) ∙ plain _ no_percent
 
     first : cut_at (64 ∷ []) (decimal cookie.index ++ 64 ∷ (decimal cookie.seconds ++ 35 ∷ cookie.client)) ≡ Some (decimal cookie.index, decimal cookie.seconds ++ 35 ∷ cookie.client)
-    first = cut_behind 64 (decimal cookie.index) (decimal cookie.seconds ++ 35 ∷ cookie.client) (weaker is_digit (is_no 64) (decimal cookie.index) digit_is_no_at (decimal_digits cookie.index wide))
+    first = cut_after 64 (decimal cookie.index) (decimal cookie.seconds ++ 35 ∷ cookie.client) (weaker is_digit (is_no 64) (decimal cookie.index) digit_is_no_at (decimal_digits cookie.index wide))
 
     second : cut_at (35 ∷ []) (decimal cookie.seconds ++ 35 ∷ cookie.client) ≡ Some (decimal cookie.seconds, cookie.client)
-    second = cut_behind 35 (decimal cookie.seconds) cookie.client (weaker is_digit (is_no 35) (decimal cookie.seconds) (digit_is_no 35 (omega arith)) (decimal_digits cookie.seconds long))
+    second = cut_after 35 (decimal cookie.seconds) cookie.client (weaker is_digit (is_no 35) (decimal cookie.seconds) (digit_is_no 35 (omega arith)) (decimal_digits cookie.seconds long))
 
     parts : three_parts (decimal cookie.index ++ 64 ∷ (decimal cookie.seconds ++ 35 ∷ cookie.client)) ≡ Some (decimal cookie.index, decimal cookie.seconds, cookie.client)
     parts = rw (first, second) refl

@@ -1,4 +1,5 @@
-pub mod Shown
-pub mod Cuts
-pub mod Lines
-pub mod Named
+pub mod AsModel
+pub mod PosCookie
+pub mod Escapes
+pub mod SetCookies
+pub mod Cookies

@@ -3,9 +3,9 @@ ghost use Rattle.std.specs.Prelude.{◌≡◌, ◌≤◌, ◌==◌, ◌||◌, no
 ghost use Rattle.std.specs.List.{prefix_len};
 ghost use Rattle.std.specs.Str.{str_eq_ignore_ascii_case};
 ghost use Rattle.wiki_model.specs.Cookies.{host_name, region_of_host, route};
-ghost use Rattle.sticky_routes.specs.Shown.{cookies_of};
+ghost use Rattle.sticky_routes.specs.AsModel.{cookies_of};
 
-use crate::field::Cookies;
+use crate::cookies::Cookies;
 use farm_base::Region;
 
 fn host_length(host: &[u8]) -> usize
@@ -33,8 +33,8 @@ fn is_west(name: &[u8]) -> bool
     name.eq_ignore_ascii_case(b"west")
 }
 
-/// The region of a host: west where the text before the first `.` or `:` is `west` in any ASCII case, and else home.
-/// It takes no memory.
+/// The region of a host: west if the text before the first `.` or `:` is `west` in any ASCII case, and else home. It
+/// takes no memory.
 pub fn region_of_host(host: &str) -> Region
     ensures { result ≡ region_of_host host.now }
 {

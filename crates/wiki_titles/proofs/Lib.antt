@@ -1,4 +1,4 @@
-pub mod Letters
+pub mod Characters
 pub mod Words
 pub mod Prefixes
 pub mod Ends

@@ -1,4 +1,6 @@
+pub mod Title
+pub mod Token
+pub mod Text
+pub mod ClientId
 pub mod Cleaning
-pub mod Readings
 pub mod Order
-pub mod Clients

@@ -1,38 +1,23 @@
-// Tokens.
-ghost use Rattle.std.specs.Prelude.{◌≡◌, ℕ, List, IsTrue, Some, refl, bytes_eq};
+// Tokens: reading one, and how tokens compare.
+ghost use Rattle.std.specs.Prelude.{◌≡◌, ℕ, ◌==◌, ◌||◌, List, IsTrue, Some, refl, bytes_eq};
+ghost use Rattle.std.specs.List.{list_all};
 ghost use Rattle.std.specs.String.{string_bytes};
 ghost use Rattle.std.specs.Cmp as Cmp;
 ghost use Rattle.std.specs.Cmp.Lexicographic.{nat_list_eq_equiv, nat_list_cmp_total, texts_po, texts_ties};
-ghost use Rattle.wiki_model.specs.Titles.{is_token};
+ghost use Rattle.wiki_model.specs.Titles.{is_letter, is_digit, is_token};
 ghost use Rattle.wiki_titles.specs.Order.{bytes_cmp};
-ghost use Rattle.wiki_titles.specs.Readings.{ReadsToken};
+ghost use Rattle.wiki_titles.specs.Token.{ReadsToken};
 
-use crate::kinds::is_token;
+use farm_base::bytes::{is_digit, is_letter};
 use std::alloc::{AllocError, Global};
 use std::cmp::Ordering;
+use std::fmt;
 use std::marker::Model;
 
-/// Why a text is no token.
-#[derive(Clone, Copy, Debug, PartialEq, Eq)]
-pub enum TokenFault {
-    /// It is not 1 to 64 bytes of ASCII letters, digits, `-` and `_`.
-    Form,
-    /// Memory was refused.
-    Memory,
-}
+/// The greatest length of a token.
+pub const TOKEN_MAX: usize = 64; // bytes
 
-impl From<AllocError> for TokenFault {
-    ghost use Rattle.std.specs.Prelude.{◌≡◌};
-    ghost use Rattle.wiki_titles.specs.declared.token.TokenFault.TheVariants.{Memory};
-
-    ghost from_gives = { λ _ fault. fault ≡ Memory };
-
-    fn from(_error: AllocError) -> TokenFault {
-        TokenFault::Memory
-    }
-}
-
-/// An edit token: 1 to 64 bytes of ASCII letters, digits, `-` and `_`. Tokens are ordered by their bytes.
+/// An edit token: 1 to [`TOKEN_MAX`] bytes of ASCII letters, digits, `-` and `_`. Tokens are ordered by their bytes.
 #[derive(Clone, Debug, Drop)]
 pub struct Token {
     text: String,
@@ -108,4 +93,56 @@ impl Ord for Token {
     fn cmp(&self, other: &Self) -> Ordering {
         self.text().cmp(other.text())
     }
+}
+
+/// Why a text is no token.
+#[derive(Clone, Copy, Debug, PartialEq, Eq)]
+pub enum TokenFault {
+    /// It is not 1 to 64 bytes of ASCII letters, digits, `-` and `_`.
+    Form,
+    /// Out of memory.
+    Memory,
+}
+
+impl From<AllocError> for TokenFault {
+    ghost use Rattle.std.specs.Prelude.{◌≡◌};
+    ghost use Rattle.wiki_titles.specs.declared.token.TokenFault.TheVariants.{Memory};
+
+    ghost from_gives = { λ _ fault. fault ≡ Memory };
+
+    fn from(_error: AllocError) -> TokenFault {
+        TokenFault::Memory
+    }
+}
+
+impl fmt::Display for TokenFault {
+    ghost use Rattle.std.specs.Prelude.{Some};
+    ghost use Rattle.wiki_titles.specs.Token.{fault_text};
+
+    ghost output = { λ fault. Some (fault_text fault) };
+
+    fn fmt<W: fmt::Write>(&self, f: &mut fmt::Formatter<W>) -> fmt::Result {
+        match self {
+            TokenFault::Form => f.write_str("a token is 1 to 64 letters, digits, - or _"),
+            TokenFault::Memory => f.write_str("out of memory"),
+        }
+    }
+}
+
+fn is_token(bytes: &[u8]) -> bool
+    ensures { result ≡ is_token bytes.now }
+{
+    0 < bytes.len() && bytes.len() <= TOKEN_MAX && are_token_bytes(bytes)
+}
+
+fn are_token_bytes(bytes: &[u8]) -> bool
+    ensures { result ≡ list_all (λ c. is_letter c || is_digit c || (c == 45) || (c == 95)) bytes.now }
+{
+    bytes.iter().all(|byte| is_token_byte(*byte))
+}
+
+fn is_token_byte(byte: u8) -> bool
+    ensures { result ≡ (is_letter byte || is_digit byte || (byte == 45) || (byte == 95)) }
+{
+    is_letter(byte) || is_digit(byte) || byte == b'-' || byte == b'_'
 }

@@ -1,23 +1,34 @@
 // Titles in paths.
-ghost use Rattle.std.specs.Prelude.{◌≡◌, ◌<◌, ◌++◌, IfOk, OnOk};
+ghost use Rattle.std.specs.Prelude.{◌≡◌, ◌<◌, ◌++◌, IsTrue, IfOk, OnOk};
 ghost use Rattle.std.specs.String.{string_bytes};
 ghost use Rattle.wiki_model.specs.Titles.{hex_digit, in_path, url_of};
+ghost use Rattle.wiki_titles.specs.Title.{stays_in_path};
 
-use crate::kinds::is_plain;
+use farm_base::bytes::{is_digit, is_letter};
 use std::alloc::{AllocError, Global};
 
-fn hex_digit(digit: u8) -> char
-    requires { digit < 16 }
-    ensures value { result ≡ hex_digit digit }
-    ensures ascii { result < 128 }
+pub(crate) fn url_of(alloc: Global, title: &str) -> Result<String, AllocError>
+    ensures { IfOk result (λ url. string_bytes url ≡ url_of title.now) }
 {
-    char::from(if digit < 10 { 48 + digit } else { 55 + digit })
+    let mut url = String::with_capacity(alloc, title.len())?;
+    push_url(&mut url, title)?;
+    Ok(url)
+}
+
+pub(crate) fn push_url(url: &mut String, title: &str) -> Result<(), AllocError>
+    ensures { OnOk result (string_bytes url.new ≡ string_bytes url.old ++ url_of title.now) }
+{
+    let bytes = title.as_bytes();
+    for byte in bytes {
+        push_escaped(url, *byte)?;
+    }
+    Ok(())
 }
 
 fn push_escaped(url: &mut String, byte: u8) -> Result<(), AllocError>
     ensures { OnOk result (string_bytes url.new ≡ string_bytes url.old ++ in_path byte) }
 {
-    if byte == 32 {
+    if byte == b' ' {
         url.push('_')
     } else if is_plain(byte) {
         url.push(char::from(byte))
@@ -28,13 +39,23 @@ fn push_escaped(url: &mut String, byte: u8) -> Result<(), AllocError>
     }
 }
 
-pub(crate) fn url_of(alloc: Global, title: &str) -> Result<String, AllocError>
-    ensures { IfOk result (λ url. string_bytes url ≡ url_of title.now) }
+// Whether this byte stands unescaped in a path.
+fn is_plain(byte: u8) -> bool
+    ensures value { result ≡ stays_in_path byte }
+    ensures ascii { IsTrue result → byte < 128 }
 {
-    let mut url = String::with_capacity(alloc, title.len())?;
-    let bytes = title.as_bytes();
-    for byte in bytes {
-        push_escaped(&mut url, *byte)?;
-    }
-    Ok(url)
+    byte < 128 && (is_letter(byte) || is_digit(byte) || b"-._~/:".contains(&byte))
+}
+
+// The digit in upper case.
+fn hex_digit(digit: u8) -> char
+    requires { digit < 16 }
+    ensures value { result ≡ hex_digit digit }
+    ensures ascii { result < 128 }
+{
+    char::from(if digit < 10 {
+        b'0' + digit
+    } else {
+        b'A' - 10 + digit
+    })
 }

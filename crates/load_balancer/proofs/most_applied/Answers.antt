@@ -1,6 +1,6 @@
 use Rattle.std.proofs.Common.{ℕ, ◌+◌, subst, sym}
 use Rattle.load_balancer.specs.declared.Row.{Row}
-use Rattle.load_balancer.specs.Rows.{row_of, rows_of}
+use Rattle.load_balancer.specs.AsModel.{row_of, rows_of}
 use Rattle.load_balancer.proofs.Rows.{no_row, IsBestOf, best_stays, best_moves, best_of_all}
 use Rattle.load_balancer.proofs.most_applied.Goals as goal
 use Rattle.load_balancer.proofs.most_applied.Goals.{then-best-row, else-best-row}

@@ -1,4 +1,4 @@
-use Rattle.load_balancer.specs.Rows.{row_of, rows_of}
+use Rattle.load_balancer.specs.AsModel.{row_of, rows_of}
 use Rattle.load_balancer.proofs.Rows.{IsBestOf}
 use Rattle.load_balancer.proofs.most_applied.Given as goal
 

@@ -1,6 +1,6 @@
 use Rattle.std.proofs.Common.{◌≡◌, ◌*◌, ◌≤◌, take, sum}
 use Rattle.wiki_model.specs.Balance.{shares}
-use Rattle.load_balancer.specs.Rows.{rows_of}
+use Rattle.load_balancer.specs.AsModel.{rows_of}
 use Rattle.load_balancer.proofs.total.Given as goal
 
 abbrev pub invariant-loop-row : goal.invariant-loop-row

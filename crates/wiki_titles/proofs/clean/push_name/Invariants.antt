@@ -5,5 +5,5 @@ use Rattle.wiki_model.specs.Titles.{raised}
 use Rattle.wiki_titles.proofs.Words.{named}
 use Rattle.wiki_titles.proofs.clean.push_name.Given as goal
 
-abbrev pub invariant-loop-letter : goal.invariant-loop-letter
-invariant-loop-letter l = string_bytes l.made ++ named l.bare (chars_rest l.letter-iterator) ≡ string_bytes l.fn.made ++ raised (skip_spaces l.fn.name)
+abbrev pub invariant-loop-character : goal.invariant-loop-character
+invariant-loop-character l = string_bytes l.made ++ named l.bare (chars_rest l.character-iterator) ≡ string_bytes l.fn.made ++ raised (skip_spaces l.fn.name)

@@ -2,7 +2,7 @@ use Rattle.std.proofs.Common.{◌≡◌, ◌-◌, ◌++◌, length, drop}
 use Rattle.wiki_model.specs.Script.{hex}
 use Rattle.wiki_titles.proofs.client.write_hex.Given as goal
 
--- the digits written so far, behind those of the rest, are all
+-- the digits written so far, after those of the rest, are all
 abbrev pub invariant-loop-i : goal.invariant-loop-i
 invariant-loop-i l = record {
   room : length l.digits ≡ l.count;

@@ -1,5 +1,5 @@
 use Rattle.std.proofs.Common.{sym, ◌∙◌, map}
-use Rattle.commit_feed.specs.Shown.{entry_of}
+use Rattle.commit_feed.specs.AsModel.{entry_of}
 use Rattle.commit_feed.proofs.Turns.{with_token_is}
 use Rattle.commit_feed.proofs.feed.Feed.by_token.Goals as goal
 

@@ -1,6 +1,6 @@
 use Rattle.std.proofs.Common.{◌<◌, ap, ◌∙◌, arith}
 use Rattle.std.specs.Prelude.{option_map}
-use Rattle.commit_feed.specs.Shown.{entry_of}
+use Rattle.commit_feed.specs.AsModel.{entry_of}
 use Rattle.commit_feed.proofs.Turns.{entry_is}
 use Rattle.commit_feed.proofs.feed.Feed.entry.Goals as goal
 

@@ -1,8 +1,0 @@
-use Rattle.std.proofs.Common.{◌≡◌, ◌+◌, drop, map}
-use Rattle.commit_feed.specs.Shown.{entry_of}
-use Rattle.commit_feed.specs.Places.{of, first_number}
-use Rattle.commit_feed.proofs.places.first_of.Given as goal
-
--- none before it passes
-abbrev pub invariant-loop-i : goal.invariant-loop-i
-invariant-loop-i l = first_number (of l.id l.mark) (l.i + 1) (map entry_of (drop l.i l.entries)) ≡ first_number (of l.id l.mark) 1 (map entry_of l.entries)

@@ -1,1 +1,0 @@
--- The lines of an answer's cookies, joined.

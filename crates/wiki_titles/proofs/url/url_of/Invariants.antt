@@ -1,6 +1,0 @@
-use Rattle.std.proofs.Common.{◌≡◌, take, flat_map, string_bytes}
-use Rattle.wiki_model.specs.Titles.{in_path}
-use Rattle.wiki_titles.proofs.url.url_of.Given as goal
-
-abbrev pub invariant-loop-byte : goal.invariant-loop-byte
-invariant-loop-byte l = string_bytes l.url ≡ flat_map in_path (take l.byte-index l.bytes)
