@@ -1,3 +1,4 @@
 pub mod Lookups
 pub mod Tellings
 pub mod Greatest
+pub mod ModelRows

@@ -2,16 +2,16 @@
 use Rattle.std.proofs.Common.{◌≡◌, ℕ, ◌+◌, ◌<◌, Bool, true, false, List, [], ◌∷◌, ◌++◌, length, take, get_or, refl, sym, ◌∙◌, ap, bytes_eq}
 use Rattle.std.proofs.lemmas.List.{take_more}
 use Rattle.std.proofs.lemmas.Slice.Eq.{bytes_eq-Decides}
-use Rattle.chronology_store.specs.declared.rows.Row.{Row}
-use Rattle.chronology_store.specs.declared.Written.{Written}
-use Rattle.chronology_store.specs.Held.{with_told, held_by, told_one, told_by}
-use Rattle.chronology_store.specs.Rows.{Positions, row_of, Changes, TellsAll}
+use Rattle.chronology_store.specs.declared.position_row.PositionRow.{PositionRow}
+use Rattle.chronology_store.specs.declared.ClientCommit.{ClientCommit}
+use Rattle.chronology_store.specs.PositionRow.{with_told, held_by, told_one, told_by}
+use Rattle.chronology_store.specs.ChronologyStore.{Positions, row_of, Changes, TellsAll}
 
-told_by-push : (rows : List Written) (written : Written) (client : List ℕ) (row : Row) → told_by (rows ++ written ∷ []) client row ≡ told_one client written (told_by rows client row)
+told_by-push : (rows : List ClientCommit) (written : ClientCommit) (client : List ℕ) (row : PositionRow) → told_by (rows ++ written ∷ []) client row ≡ told_one client written (told_by rows client row)
 told_by-push [] written client row = refl
 told_by-push (first ∷ rows) written client row = told_by-push rows written client (told_one client first row)
 
-told_here : (client : List ℕ) (written : Written) (old new : Positions) → Changes written.client (with_told (held_by written)) old new → row_of new client ≡ told_one client written (row_of old client)
+told_here : (client : List ℕ) (written : ClientCommit) (old new : Positions) → Changes written.client (with_told (held_by written)) old new → row_of new client ≡ told_one client written (row_of old client)
 told_here client written old new changes = by (bytes_eq written.client client) refl
   where
     by : (b : Bool) → bytes_eq written.client client ≡ b → row_of new client ≡ told_one client written (row_of old client)
@@ -20,12 +20,12 @@ told_here client written old new changes = by (bytes_eq written.client client) r
     by false e = changes.others client e ∙ rw e refl
 
 -- one commit more
-pub tells_more : (rows : List Written) (i : ℕ) (written : Written) (first old new : Positions) → i < length rows → written ≡ get_or rows i written → TellsAll (take i rows) first old
+pub tells_more : (rows : List ClientCommit) (i : ℕ) (written : ClientCommit) (first old new : Positions) → i < length rows → written ≡ get_or rows i written → TellsAll (take i rows) first old
     → Changes written.client (with_told (held_by written)) old new → TellsAll (take (i + 1) rows) first new
 tells_more rows i written first old new h is all changes = record {
   each = λ client.
       told_here client written old new changes
       ∙ ap (told_one client written) (all.each client)
       ∙ sym (told_by-push (take i rows) written client (row_of first client))
-      ∙ ap (λ (some : List Written). told_by some client (row_of first client)) (sym (take_more rows i written h ∙ ap (λ (x : Written). take i rows ++ x ∷ []) (sym is)));
+      ∙ ap (λ (some : List ClientCommit). told_by some client (row_of first client)) (sym (take_more rows i written h ∙ ap (λ (x : ClientCommit). take i rows ++ x ∷ []) (sym is)));
 }

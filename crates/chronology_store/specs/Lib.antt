@@ -1,3 +1,4 @@
-pub mod Held
-pub mod Rows
+pub mod PositionRow
+pub mod ChronologyStore
 pub mod Calls
+pub mod AsModel

@@ -1,6 +1,8 @@
-pub mod Book
-pub mod Told
-pub mod Shown
+pub mod Carried
 pub mod Causes
-pub mod Lines
+pub mod Body
+pub mod LedgerRow
+pub mod Ledger
+pub mod FarmWire
 pub mod Ready
+pub mod AsModel

@@ -1,5 +1,5 @@
 -- What a take is to do, as the code finds it.
-use Rattle.purge_relay.specs.Lines.{Next, Gives, GivesNone, Fails}
+use Rattle.purge_relay.specs.FarmWire.{Next, Gives, GivesNone, Fails}
 use Rattle.purge_relay.specs.declared.farm_wire.Ready.{Ready}
 use Rattle.purge_relay.specs.declared.farm_wire.Ready.TheVariants as ready
 

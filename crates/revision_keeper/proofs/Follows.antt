@@ -11,11 +11,11 @@ use Rattle.wiki_model.proofs.HistoryLaws.{last_of-push, commits_from-push_beat, 
 use Rattle.wiki_model.proofs.HistoryGrowth.{take-all, stamp-before, stamp-after}
 use Rattle.wiki_model.proofs.SessionLaws.{last-get, filter-get, numbered-at}
 use Rattle.commit_feed.specs.declared.entry.Entry as feed
-use Rattle.commit_feed.specs.declared.entry.Writes.{Writes}
-use Rattle.commit_feed.specs.Shown.{entry_of}
+use Rattle.commit_feed.specs.declared.feed.Writes.{Writes}
+use Rattle.commit_feed.specs.AsModel.{entry_of}
 use Rattle.commit_feed.proofs.Found.{few_by}
-use Rattle.revision_keeper.specs.declared.titles.TitleIndex.{TitleIndex}
-use Rattle.revision_keeper.specs.declared.clients.ClientIndex.{ClientIndex}
+use Rattle.revision_keeper.specs.declared.title_index.TitleIndex.{TitleIndex}
+use Rattle.revision_keeper.specs.declared.client_index.ClientIndex.{ClientIndex}
 use Rattle.revision_keeper.specs.Bounds.{writes_of}
 use Rattle.revision_keeper.specs.Indexes.{numbers_of, writes_in, one_more, AreSameNumbers, AreSameWrites, AddsNumber, AddsWrite, AreIndexed}
 
@@ -136,8 +136,8 @@ tokens_beat h s client token = ap (λ xs. number_of (find (λ n. bytes_eq n.comm
 -- in a history the token of the last commit was free
 free_token : (h : List Entry) (c : Commit) → IsHistory (h ++ Committed c ∷ []) → commit_with_token h c.edit.client c.edit.token ≡ None
 free_token h c is =
-    let front : take (length h) (h ++ Committed c ∷ []) ≡ h = take-push h (Committed c) (length h) (omega arith) ∙ take-all h in
-    ap (λ xs. commit_with_token xs c.edit.client c.edit.token) (sym front) ∙ is.tokens (length h) c (ap commit_in (push-at h (Committed c)))
+    let prefix : take (length h) (h ++ Committed c ∷ []) ≡ h = take-push h (Committed c) (length h) (omega arith) ∙ take-all h in
+    ap (λ xs. commit_with_token xs c.edit.client c.edit.token) (sym prefix) ∙ is.tokens (length h) c (ap commit_in (push-at h (Committed c)))
 
 -- the indexes agree with the longer list
 

@@ -33,7 +33,7 @@ rise_weak xs is i j ij lt = by (below_or i j ij)
     by (inl less) = let more = rise_order 1 xs is i j less lt in omega (arith, more)
     by (inr same) = let here : get_or xs i 0 ≡ get_or xs j 0 = ap (λ k. get_or xs k 0) same in omega (arith, here)
 
--- those at most the bound are a front
+-- those at most the bound are a prefix
 
 none_above : (bound : ℕ) (xs : List ℕ) → ((i : ℕ) → i < length xs → bound < get_or xs i 0) → filter (λ n. nat_le n bound) xs ≡ []
 none_above bound [] above = refl
@@ -43,15 +43,15 @@ none_above bound (x ∷ xs) above =
     ap (λ b. cond b (x ∷ filter (λ n. nat_le n bound) xs) (filter (λ n. nat_le n bound) xs)) test
     ∙ none_above bound xs (λ i lt. above (suc i) (omega (arith, lt)))
 
-front_is : (bound : ℕ) (xs : List ℕ) (place : ℕ) → ((i : ℕ) → i < place → i < length xs → get_or xs i 0 ≤ bound) → ((i : ℕ) → place ≤ i → i < length xs → bound < get_or xs i 0)
+prefix_is : (bound : ℕ) (xs : List ℕ) (place : ℕ) → ((i : ℕ) → i < place → i < length xs → get_or xs i 0 ≤ bound) → ((i : ℕ) → place ≤ i → i < length xs → bound < get_or xs i 0)
     → filter (λ n. nat_le n bound) xs ≡ take place xs
-front_is bound xs zero below above = none_above bound xs (λ i lt. above i (omega arith) lt)
-front_is bound [] (suc place) below above = refl
-front_is bound (x ∷ xs) (suc place) below above =
+prefix_is bound xs zero below above = none_above bound xs (λ i lt. above i (omega arith) lt)
+prefix_is bound [] (suc place) below above = refl
+prefix_is bound (x ∷ xs) (suc place) below above =
     let first : x ≤ bound = below zero (omega arith) (omega arith) in
     let test : nat_le x bound ≡ true = grind (arith, nat_tests, first) in
     ap (λ b. cond b (x ∷ filter (λ n. nat_le n bound) xs) (filter (λ n. nat_le n bound) xs)) test
-    ∙ ap (λ ys. x ∷ ys) (front_is bound xs place (λ i lt within. below (suc i) (omega (arith, lt)) (omega (arith, within))) (λ i ge lt. above (suc i) (omega (arith, ge)) (omega (arith, lt))))
+    ∙ ap (λ ys. x ∷ ys) (prefix_is bound xs place (λ i lt within. below (suc i) (omega (arith, lt)) (omega (arith, within))) (λ i ge lt. above (suc i) (omega (arith, ge)) (omega (arith, lt))))
 
 last_take : (xs : List ℕ) (i : ℕ) → i < length xs → last_of (take (suc i) xs) ≡ Some (get_or xs i 0)
 last_take [] i lt = let no : ⊥ = omega (arith, lt) in absurd no
@@ -62,7 +62,7 @@ last_take (x ∷ y ∷ xs) (suc i) lt = last_take (y ∷ xs) i (omega (arith, lt
 -- the bound itself stands there
 pub found_at : (xs : List ℕ) (bound i : ℕ) → RiseFrom 1 xs → i < length xs → get_or xs i 0 ≡ bound → last_up_to bound xs ≡ Some bound
 found_at xs bound i rise lt at =
-    ap last_of (front_is bound xs (suc i) (λ j le within. upto j (before_or j le)) (λ j ge within. let more = rise_order 1 xs rise i j (omega (arith, ge)) within in omega (arith, more, at)))
+    ap last_of (prefix_is bound xs (suc i) (λ j le within. upto j (before_or j le)) (λ j ge within. let more = rise_order 1 xs rise i j (omega (arith, ge)) within in omega (arith, more, at)))
     ∙ last_take xs i lt ∙ ap Some at
   where
     before_or : (j : ℕ) → j < suc i → (j < i) ⊎ (j ≡ i)
@@ -78,7 +78,7 @@ pub found_before : (xs : List ℕ) (bound place : ℕ) → 0 < place → place �
 found_before xs bound zero some within below above = let no : ⊥ = omega (arith, some) in absurd no
 found_before xs bound (suc i) some within below above =
     let back : suc i - 1 ≡ i = omega arith in
-    ap last_of (front_is bound xs (suc i) (λ j lt _. let less = below j lt in omega (arith, less)) above)
+    ap last_of (prefix_is bound xs (suc i) (λ j lt _. let less = below j lt in omega (arith, less)) above)
     ∙ last_take xs i (omega (arith, within)) ∙ ap (λ k. Some (get_or xs k 0)) (sym back)
 
 pub found_none : (xs : List ℕ) (bound : ℕ) → ((i : ℕ) → 0 ≤ i → i < length xs → bound < get_or xs i 0) → last_up_to bound xs ≡ None
@@ -99,7 +99,7 @@ rise_from p n (Committed c ∷ h) = by (p (record { number = n; commit = c })) (
 pub rising : (h : List Entry) (title : Title) → RiseFrom 1 (numbers_of (commits_on h title))
 rising h title = rise_from (λ n. bytes_eq n.commit.edit.title title) 1 h
 
--- the numbers of the commits of a front are those at most its length
+-- the numbers of the commits of a prefix are those at most its length
 
 none_below : (limit : ℕ) (xs : List ℕ) → RiseFrom limit xs → filter (λ n. nat_lt n limit) xs ≡ []
 none_below limit [] is = refl
@@ -141,7 +141,7 @@ number_last [] = refl
 number_last (x ∷ []) = refl
 number_last (x ∷ y ∷ xs) = number_last (y ∷ xs)
 
--- the page of a front is that of the last of the title's numbers within it
+-- the page of a prefix is that of the last of the title's numbers within it
 pub page_is : (h : List Entry) (k : ℕ) (title : Title) → number_of (page h k title) ≡ last_up_to k (numbers_of (commits_on h title))
 page_is h k title =
     number_last (commits_on (take k h) title)

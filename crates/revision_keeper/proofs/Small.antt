@@ -27,12 +27,12 @@ entry_small h is short (suc i) = by (slice_get h i) refl
         let at : stamp_at h (suc i) ≡ c.stamp = ap (λ o. unwrap_or (option_map stamp_of o) 0) e in
         let small = is.small (suc i) in
         let within = slice_get_within h i (Committed c) e in
-        let front = take_short i h in
+        let prefix = take_short i h in
         let on = filter_few (λ n. bytes_eq n.commit.edit.title c.edit.title) (take i h) in
         let from = filter_few (λ n. bytes_eq n.commit.edit.client c.edit.client) (take i h) in
         let revision = is.revisions i c (ap commit_in e) in
         let index = is.indexes i c (ap commit_in e) in
-        (omega (arith, at, small), omega (arith, revision, on, front, within, short), omega (arith, index, from, front, within, short))
+        (omega (arith, at, small), omega (arith, revision, on, prefix, within, short), omega (arith, index, from, prefix, within, short))
 
 place_small : (h : List Entry) (n : ℕ) (e : Entry) → length h < 2 ^ 63 → entry_at h n ≡ Some e → n < 2 ^ 63
 place_small h zero e short at = let no : ⊥ = cc in absurd no

@@ -1,9 +1,9 @@
--- The bounds of what a keeper answers, whether or not it tells its content.
+-- The bounds of what a keeper answers, whether or not it exposes its content.
 use Rattle.std.specs.Prelude.{◌<◌, ◌≤◌, ◌^◌, List}
 use Rattle.wiki_model.specs.Limits.{greatest_moment}
 use Rattle.wiki_model.specs.Titles.{Client}
 use Rattle.wiki_model.specs.History.{Entry, Beat, Committed, count, own, stamp_at}
-use Rattle.commit_feed.specs.declared.entry.Writes.{Writes}
+use Rattle.commit_feed.specs.declared.feed.Writes.{Writes}
 
 abbrev pub IsSmall : Entry → Type 0
 IsSmall (Beat stamp) = stamp ≤ greatest_moment

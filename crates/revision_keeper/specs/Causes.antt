@@ -1,5 +1,5 @@
--- When a keeper may answer a fault: only where its count of faults rose in that call.
--- Want of memory is not counted.
+-- When a keeper may answer a fault: only if its count of faults rose in that call.
+-- Out of memory is not counted.
 use Rattle.std.specs.Prelude.{ℕ, ◌≤◌, Result, IsErrOf}
 use Rattle.wiki_model.specs.Steps.{Rose}
 use Rattle.revision_keeper.specs.declared.keeper.KeepFault.{KeepFault}

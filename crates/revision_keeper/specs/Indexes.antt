@@ -1,13 +1,13 @@
 -- The ordered indexes over a list of entries: what they hold, and when they agree with the list.
-use Rattle.std.specs.Prelude.{◌≡◌, ℕ, ◌+◌, ◌≤◌, ◌&&◌, if◌then◌else◌, List, [], ◌∷◌, ◌++◌, map, filter, Option, Some, unwrap_or, option_map, option_and_then, nat_le, bytes_eq, ⊤}
+use Rattle.std.specs.Prelude.{◌≡◌, ℕ, ◌+◌, ◌-◌, ◌≤◌, ◌&&◌, if◌then◌else◌, List, [], ◌∷◌, ◌++◌, map, filter, take, length, Option, Some, unwrap_or, option_map, option_and_then, nat_le, bytes_eq, ⊤}
 use Rattle.std.specs.BTreeMap.{get}
 use Rattle.wiki_model.specs.Bytes.{last_of}
 use Rattle.wiki_model.specs.Titles.{Title, Client, Token}
 use Rattle.wiki_model.specs.History.{Entry, Numbered, IsHistory, commits_on, commit_with_token, number_of}
 use Rattle.wiki_titles.specs.Order.{bytes_cmp}
-use Rattle.commit_feed.specs.declared.entry.Writes.{Writes}
-use Rattle.revision_keeper.specs.declared.titles.TitleIndex.{TitleIndex}
-use Rattle.revision_keeper.specs.declared.clients.ClientIndex.{ClientIndex}
+use Rattle.commit_feed.specs.declared.feed.Writes.{Writes}
+use Rattle.revision_keeper.specs.declared.title_index.TitleIndex.{TitleIndex}
+use Rattle.revision_keeper.specs.declared.client_index.ClientIndex.{ClientIndex}
 use Rattle.revision_keeper.specs.Bounds.{writes_of}
 
 -- each number is above the one before, and the first is at least the one given
@@ -22,7 +22,7 @@ last_up_to bound numbers = last_of (filter (λ n. nat_le n bound) numbers)
 abbrev pub numbers_of : List Numbered → List ℕ
 numbers_of found = map (λ n. n.number) found
 
--- what the indexes hold for a key; nothing is held where there is no row
+-- what the indexes hold for a key; nothing is held if there is no row
 
 abbrev pub numbers_on : TitleIndex → Title → List ℕ
 numbers_on index title = unwrap_or (get bytes_cmp index.rows title) []
@@ -50,8 +50,13 @@ pub record AreSameWrites (old new : ClientIndex) : Type 0 where
 abbrev pub AddsNumber : (old new : TitleIndex) → Title → (number : ℕ) → Type 0
 AddsNumber old new title number = (t : Title) → numbers_on new t ≡ (if bytes_eq title t then numbers_on old t ++ number ∷ [] else numbers_on old t)
 
+-- the client's next commit
 abbrev pub one_more : Writes → (number stamp : ℕ) → Writes
 one_more writes number stamp = record { count = writes.count + 1; last = number; stamp = stamp }
+
+-- one title loses its last number
+abbrev pub DropsNumber : (old new : TitleIndex) → Title → Type 0
+DropsNumber old new title = (t : Title) → numbers_on new t ≡ (if bytes_eq title t then take (length (numbers_on old t) - 1) (numbers_on old t) else numbers_on old t)
 
 pub record AddsWrite (old new : ClientIndex) (client : Client) (token : Token) (number stamp : ℕ) : Type 0 where
   pub writes : (c : Client) → writes_in new c ≡ (if bytes_eq client c then one_more (writes_in old c) number stamp else writes_in old c)

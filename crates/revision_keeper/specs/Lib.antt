@@ -1,4 +1,5 @@
 pub mod Causes
 pub mod Bounds
-pub mod Held
+pub mod Keeper
+pub mod MemKeeper
 pub mod Indexes

@@ -1,4 +1,6 @@
-pub mod Found
-pub mod Rows
-pub mod Uses
-pub mod Kept
+pub mod Rules
+pub mod CacheRow
+pub mod RecentUses
+pub mod MapCache
+pub mod RowTable
+pub mod AsModel

@@ -1,2 +1,2 @@
-pub mod Shown
-pub mod Lives
+pub mod AsModel
+pub mod Value

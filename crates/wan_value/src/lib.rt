@@ -1,40 +1,45 @@
-//! Pages as a region's cache keeps them: the rule by which a new page is stored, and the rule by which a
-//! stored one is fresh.
+//! Values of a cache: when a page may be stored, and when a stored one may still be served.
+//!
+//! A page comes from a replica that lags, and a page that was rendered from a prefix of the history does not get
+//! younger by lying in a cache. So a value carries what it is made from: how many entries, the moment of the last
+//! of them, and the moment at which it was stored. `decide_set` asks before storing how far behind the replica was
+//! when it was read, and how long ago that is: a page that may be too old is kept for a short time only, or not at
+//! all. `fresh` asks before serving for everything that can have happened since: a purge of its title, a change of
+//! what stands on all pages, the end of its life, a new epoch, another markup, an edit that the reader may not
+//! miss. The first that holds is the answer, so that a miss says why.
+//!
+//! Where values are kept, and what a purge does, is in `wan_cache`.
+//!
+//! `decide_set(4_000, 3_000, false, 7_000)` is `SetRule::Whole`, and with an age of 3,001 it is
+//! `SetRule::NoMedium`: neither lag nor age is above 7,000, and both together are.
 #![tactic(auto)]
 
 ghost use Rattle.std.specs.Prelude.{◌≡◌};
 ghost use Rattle.std.specs.Result.{result_err};
 ghost use Rattle.wiki_model.specs.Cache.{set_rule, staleness};
-ghost use Rattle.wan_value.specs.Lives.{ended};
-ghost use Rattle.wan_value.specs.Shown.{value_of, ask_of};
+ghost use Rattle.wan_value.specs.AsModel.{value_of, ask_of};
+ghost use Rattle.wan_value.specs.Value.{ended};
 
-pub use farm_base::Moment;
+pub use farm_base::{LIFE_INTERIM, LIFE_LAGGED, LIFE_WHOLE, Moment};
 use std::alloc::AllocError;
 use std::sync::Arc;
 pub use wiki_model::{SetRule, Stale};
-
-/// How long a page is kept that was stored whole, in milliseconds.
-pub const LIFE_WHOLE: u64 = 86_400_000;
-/// How long a page is kept that was stored as lagged, in milliseconds.
-pub const LIFE_LAGGED: u64 = 30_000;
-/// How long an interim page may be shown, in milliseconds.
-pub const LIFE_INTERIM: u64 = 2_000;
 
 /// A page as a cache keeps it.
 #[derive(Drop)]
 pub struct Value<P> {
     pub page: Arc<P>,
-    /// The number of entries of the history that the page is made from.
+    /// How many entries of the history the page is made from: a prefix.
     pub upto: u64,
     /// The moment of the last of these entries.
     pub stamp: Moment,
     /// The moment at which it was stored.
     pub set_at: Moment,
-    /// How long it may be served, in milliseconds.
+    /// How long it may be served from then on, in milliseconds.
     pub life: u64,
-    /// Whether its replica lagged behind.
+    /// Whether its replica lagged too far for the page to be kept whole.
     pub lagged: bool,
-    /// The markup by which it was made.
+    /// The markup by which it was rendered.
     pub version: u8,
 }
 
@@ -58,17 +63,17 @@ impl<P: Drop> Clone for Value<P> {
 /// What a reader asks of a value.
 #[derive(Clone, Copy, Debug, PartialEq, Eq)]
 pub struct Ask {
-    /// Values from before this moment do not count.
+    /// Values from before this moment do not count; 0 lets all count.
     pub epoch: Moment,
-    /// The markup that the page is to be made by.
+    /// The markup that the page is to be rendered by.
     pub version: u8,
-    /// The number of entries that the page may not miss.
+    /// How many entries of the history the page must be made from at least.
     pub need: u64,
 }
 
-/// How a page is stored whose replica was `lag` milliseconds behind when it was read `age` milliseconds ago,
-/// where a replica may be `read_lag` behind for its page to be kept whole. `pending` says that entries were
-/// waiting to be applied. It takes no memory.
+/// How a page is stored whose replica was `lag` milliseconds behind when it was read `age` milliseconds ago, if a
+/// replica may be `read_lag` behind for its page to be kept whole. `pending` says that entries were waiting to be
+/// applied. It takes no memory.
 pub fn decide_set(lag: u64, age: u64, pending: bool, read_lag: u64) -> SetRule
     ensures { result ≡ set_rule lag age pending read_lag }
 {
@@ -85,8 +90,8 @@ pub fn decide_set(lag: u64, age: u64, pending: bool, read_lag: u64) -> SetRule
     }
 }
 
-/// Whether a value may be served at `now` as it was asked for, where its key is held to `floor` and all keys
-/// to `check`; else the first reason against it. It takes no memory.
+/// Whether a value may be served at `now` as it was asked for, if its key is held off until `floor` and all keys
+/// up to `check`; else the first reason against it. It takes no memory.
 pub fn fresh<P>(
     value: &Value<P>,
     now: Moment,
@@ -117,7 +122,7 @@ pub fn fresh<P>(
     Ok(())
 }
 
-/// The end of a life, where it has come.
+// The end of a life, if it has come.
 fn expiry(set_at: Moment, life: u64, now: Moment) -> Option<Moment>
     ensures { result ≡ ended set_at life now }
 {

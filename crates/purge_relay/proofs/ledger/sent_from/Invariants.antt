@@ -1,5 +1,5 @@
 use Rattle.std.proofs.Common.{length, ◌-◌, ◌≤◌}
-use Rattle.purge_relay.specs.Book.{AreSent}
+use Rattle.purge_relay.specs.Ledger.{AreSent}
 use Rattle.purge_relay.proofs.ledger.sent_from.Given as goal
 
 abbrev pub invariant-loop-place : goal.invariant-loop-place

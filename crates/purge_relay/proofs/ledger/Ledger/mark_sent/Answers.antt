@@ -1,9 +1,20 @@
-use Rattle.std.proofs.Common.{List, length, sym, ap, ◌∙◌}
-use Rattle.purge_relay.specs.declared.message.Marked.{Marked}
-use Rattle.purge_relay.specs.Book.{place_of, changed_at, sent}
-use Rattle.purge_relay.proofs.Changes.{changed}
+use Rattle.std.proofs.Common.{rules, refl, List, length, sym, ap, ◌∙◌}
+use Rattle.purge_relay.specs.declared.ledger_row.LedgerRow.{LedgerRow}
+use Rattle.purge_relay.specs.LedgerRow.{sent}
+use Rattle.purge_relay.specs.Ledger.{place_of, changed_at}
+use Rattle.purge_relay.proofs.Changes.{changed, small_changed, numbered_changed}
 use Rattle.purge_relay.proofs.ledger.Ledger.mark_sent.Goals as goal
 
 pub returns-in-Some : goal.returns-in-Some
 returns-in-Some c = let i = c.self.inside in
-    ap (λ (rows : List Marked). record { rows = rows; spare = i.spare }) (sym (changed sent i.rows.items c.args.number c.in-Some.place c.index_mut.result.now (c.in-Some.ensures ∙ ap (λ (rows : List Marked). place_of (length rows) c.args.number) c.deref.ensures.value) c.index_mut.ensures.value)) ∙ ap (changed_at sent c.args.number) c.self.view_is
+    ap (λ (rows : List LedgerRow). record { rows = rows; spare = i.spare }) (sym (changed sent i.rows.items c.args.number c.in-Some.place c.index_mut.result.now (c.in-Some.ensures ∙ ap (λ (rows : List LedgerRow). place_of (length rows) c.args.number) c.deref.ensures.value) c.index_mut.ensures.value)) ∙ ap (changed_at sent c.args.number) c.self.view_is
+
+pub invariant_of-self : goal.invariant_of-self
+invariant_of-self c = let i = c.self.inside in record {
+  room = search rules;
+  numbered = numbered_changed i.rows.items c.args.number c.in-Some.place c.index_mut.result.now (sent c.index_mut.result.now) (c.in-Some.ensures ∙ ap (λ (rows : List LedgerRow). place_of (length rows) c.args.number) c.deref.ensures.value) c.index_mut.ensures.value c.self.invariant.numbered refl;
+  sent = search rules;
+  small = small_changed sent i.rows.items c.args.number c.in-Some.place c.index_mut.result.now
+      (c.in-Some.ensures ∙ ap (λ (rows : List LedgerRow). place_of (length rows) c.args.number) c.deref.ensures.value) c.index_mut.ensures.value c.self.invariant.small
+      (λ s. record { body = s.body; home = s.home; west = s.west });
+}

@@ -1,9 +1,0 @@
-use Rattle.std.proofs.Common.{ap, ◌∙◌, unwrap_or}
-use Rattle.chronology_store.specs.Held.{nothing}
-use Rattle.chronology_store.proofs.Lookups.{found_same}
-use Rattle.chronology_store.proofs.rows.row_of.Goals as goal
-
-pub returns : goal.returns
-returns c =
-    c.unwrap_or.ensures
-    ∙ ap (λ o. unwrap_or o nothing) (c.copied-row.ensures ∙ c.get.ensures.value ∙ found_same c.args.client.now c.args.rows.now.entries)

@@ -1,5 +1,0 @@
-use Rattle.chronology_store.proofs.Greatest.{finds}
-use Rattle.chronology_store.proofs.store.finds_greatest.Goals as goal
-
-pub returns : goal.returns
-returns c = finds
