@@ -8,23 +8,23 @@ use Rattle.wiki_model.specs.Bytes.{Bytes, begins}
 use Rattle.wiki_model.specs.Html.{enclosed, bracketed}
 use Rattle.page_markup.specs.declared.brackets.Names.{Names}
 use Rattle.page_markup.specs.declared.brackets.Names.TheVariants.{Links, Templates}
-use Rattle.page_markup.specs.Marks.{distance, next_place, opening_of, closing_of}
-use Rattle.page_markup.specs.Within.{between}
+use Rattle.page_markup.specs.Mark.{distance, next_place, opening_of, closing_of}
+use Rattle.page_markup.specs.ClosingPlaces.{between}
 use Rattle.page_markup.proofs.Places.{drop_drop, distance_within, enclosed_some, enclosed_none, brackets_at, bracketed_none, bracketed_long, length_taken}
 use Rattle.page_markup.proofs.Cuts.{two_long}
-use Rattle.page_markup.proofs.Taken.{clip, clip_kept, clip_lost, clip_never, begins_not, at_most_or_past, enclosed_front, bracketed_front}
+use Rattle.page_markup.proofs.Taken.{clip, clip_kept, clip_lost, clip_never, begins_not, at_most_or_past, enclosed_prefix, bracketed_prefix}
 
 pub next_within : (mark : Bytes) (from : ℕ) (text : Bytes) → from ≤ length text → next_place mark from text ≤ length text
 next_within mark from text h = omega (arith, h, distance_within mark (drop from text), length-drop from text)
 
-front_is : (mark text : Bytes) (at to : ℕ) → 0 < length mark → at ≤ to → to ≤ length text
+prefix_is : (mark text : Bytes) (at to : ℕ) → 0 < length mark → at ≤ to → to ≤ length text
     → enclosed mark (between at to text) ≡ option_and_then (clip (length mark) (length mark) (to - at)) (enclosed mark (drop at text))
-front_is mark text at to some o h = enclosed_front mark (drop at text) (to - at) some (omega (arith, o, h, length-drop at text))
+prefix_is mark text at to some o h = enclosed_prefix mark (drop at text) (to - at) some (omega (arith, o, h, length-drop at text))
 
 -- quotes
 pub quotes_short : (mark text : Bytes) (at to : ℕ) → 0 < length mark → at ≤ to → to ≤ length text → to < at + length mark + length mark
     → enclosed mark (between at to text) ≡ None
-quotes_short mark text at to some o h l = front_is mark text at to some o h ∙ clip_never (length mark) (length mark) (to - at) (enclosed mark (drop at text)) (omega (arith, l, o))
+quotes_short mark text at to some o h l = prefix_is mark text at to some o h ∙ clip_never (length mark) (length mark) (to - at) (enclosed mark (drop at text)) (omega (arith, l, o))
 
 pub quotes_absent : (mark text : Bytes) (at to : ℕ) → begins mark (drop at text) ≡ false → enclosed mark (between at to text) ≡ None
 quotes_absent mark text at to e = rw (begins_not mark (drop at text) (to - at) (at_most_or_past (length mark) (to - at)) e) refl
@@ -45,13 +45,13 @@ enclosed_found mark text at close e l c found =
     let d = distance mark t in
     let len : length t ≡ length text - (n + 1) = length-drop (n + 1) text in
     let inside : d < length t = omega (arith, len, c, found) in
-    let front : between n close text ≡ get_or text n 0 ∷ take d t =
+    let prefix : between n close text ≡ get_or text n 0 ∷ take d t =
     ap (take (close - n)) (drop-cons text n 0 l) ∙ ap (λ k. take k (get_or text n 0 ∷ drop (suc n) text)) (let z : close - n ≡ suc d = omega (arith, c) in z)
     ∙ ap (λ k. get_or text n 0 ∷ take d (drop k text)) (let z : suc n ≡ n + 1 = omega arith in z) in
     let back : drop (length mark) (drop d t) ≡ drop (close + length mark) text =
     drop_drop (length mark) d t ∙ drop_drop (d + length mark) (n + 1) text ∙ ap (λ k. drop k text) (let z : n + 1 + (d + length mark) ≡ close + length mark = omega (arith, c) in z) in
     enclosed_some mark (drop at text) (get_or text n 0) t e (behind mark text at l) inside
-    ∙ ap (λ x. Some (x, drop (length mark) (drop d t))) (sym front) ∙ ap (λ y. Some (between n close text, y)) back
+    ∙ ap (λ x. Some (x, drop (length mark) (drop d t))) (sym prefix) ∙ ap (λ y. Some (between n close text, y)) back
 
 inner_long : (text : Bytes) (from close : ℕ) → close ≤ length text → length (between from close text) ≡ close - from
 inner_long text from close h = length_taken (close - from) (drop from text) (omega (arith, h, length-drop from text))
@@ -78,7 +78,7 @@ pub quotes_open : (mark text : Bytes) (at to close : ℕ) → begins mark (drop 
 quotes_open mark text at to close e some o h fit c past =
     let d = from_there mark text at close c in
     let within : close ≤ length text = omega (arith, d, next_within mark (at + length mark + 1) text (omega (arith, fit, some, h))) in
-    front_is mark text at to some o h ∙ open_by mark text at to close e some o h (omega (arith, fit, some, h)) d past (eq-or-lt_of_le within)
+    prefix_is mark text at to some o h ∙ open_by mark text at to close e some o h (omega (arith, fit, some, h)) d past (eq-or-lt_of_le within)
 
 pub quotes_closed : (mark text : Bytes) (at to close : ℕ) → begins mark (drop at text) ≡ true → 0 < length mark → at ≤ to → to ≤ length text → at + length mark + length mark ≤ to
     → close ≡ next_place mark (at + (length mark + 1)) text → close + length mark ≤ to
@@ -87,7 +87,7 @@ quotes_closed mark text at to close e some o h fit c in_time =
     let w = length mark in
     let n = at + w in
     let d = from_there mark text at close c in
-    front_is mark text at to some o h
+    prefix_is mark text at to some o h
     ∙ ap (option_and_then (clip w w (to - at))) (enclosed_found mark text at close e (omega (arith, fit, some, h)) d (omega (arith, in_time, some, h)))
     ∙ clip_kept w w (to - at) (close - n) (between n close text) (drop (close + w) text) (inner_long text n close (omega (arith, in_time, h))) (omega (arith, in_time, d))
     ∙ ap (λ k. Some (between n close text, take k (drop (close + w) text))) (let z : to - at - (w + (close - n) + w) ≡ to - (close + w) = omega (arith, d) in z)
@@ -97,17 +97,17 @@ two_closing : (names : Names) → length (closing_of names) ≡ 2
 two_closing Links = refl
 two_closing Templates = refl
 
-brackets_front : (names : Names) (text : Bytes) (at to : ℕ) → at ≤ to → to ≤ length text
+brackets_prefix : (names : Names) (text : Bytes) (at to : ℕ) → at ≤ to → to ≤ length text
     → bracketed (opening_of names) (closing_of names) (between at to text) ≡ option_and_then (clip 2 2 (to - at)) (bracketed (opening_of names) (closing_of names) (drop at text))
-brackets_front names text at to o h =
+brackets_prefix names text at to o h =
     let two = two_closing names in
-    bracketed_front (opening_of names) (closing_of names) (drop at text) (to - at) (omega (arith, two)) (omega (arith, o, h, length-drop at text))
+    bracketed_prefix (opening_of names) (closing_of names) (drop at text) (to - at) (omega (arith, two)) (omega (arith, o, h, length-drop at text))
     ∙ ap (λ w. option_and_then (clip w (length (closing_of names)) (to - at)) (bracketed (opening_of names) (closing_of names) (drop at text))) (two_long names)
     ∙ ap (λ w. option_and_then (clip 2 w (to - at)) (bracketed (opening_of names) (closing_of names) (drop at text))) two
 
 pub brackets_short : (names : Names) (text : Bytes) (at to : ℕ) → at ≤ to → to ≤ length text → to < at + 2 + 2
     → bracketed (opening_of names) (closing_of names) (between at to text) ≡ None
-brackets_short names text at to o h l = brackets_front names text at to o h ∙ clip_never 2 2 (to - at) (bracketed (opening_of names) (closing_of names) (drop at text)) (omega (arith, l, o))
+brackets_short names text at to o h l = brackets_prefix names text at to o h ∙ clip_never 2 2 (to - at) (bracketed (opening_of names) (closing_of names) (drop at text)) (omega (arith, l, o))
 
 pub brackets_absent : (names : Names) (text opening : Bytes) (at to : ℕ) → opening ≡ opening_of names → begins opening (drop at text) ≡ false
     → bracketed (opening_of names) (closing_of names) (between at to text) ≡ None
@@ -153,7 +153,7 @@ late names text at close e l c (inr far) =
 
 late_none : (names : Names) (text : Bytes) (at to : ℕ) → at ≤ to → to ≤ length text → bracketed (opening_of names) (closing_of names) (drop at text) ≡ None
     → bracketed (opening_of names) (closing_of names) (between at to text) ≡ None
-late_none names text at to o h e = brackets_front names text at to o h ∙ ap (option_and_then (clip 2 2 (to - at))) e
+late_none names text at to o h e = brackets_prefix names text at to o h ∙ ap (option_and_then (clip 2 2 (to - at))) e
 
 begun : (names : Names) (text opening : Bytes) (at : ℕ) → opening ≡ opening_of names → begins opening (drop at text) ≡ true → begins (opening_of names) (drop at text) ≡ true
 begun names text opening at i e = ap (λ m. begins m (drop at text)) (sym i) ∙ e
@@ -167,7 +167,7 @@ open_at : (names : Names) (text : Bytes) (at to close : ℕ) → begins (opening
 open_at names text at to close e o h fit c past (inl end) size = late_none names text at to o h (late names text at close e (omega (arith, fit, h)) c (inl end))
 open_at names text at to close e o h fit c past (inr found) (inr many) = late_none names text at to o h (late names text at close e (omega (arith, fit, h)) c (inr (found, many)))
 open_at names text at to close e o h fit c past (inr found) (inl few) =
-    brackets_front names text at to o h ∙ clipped names text at to close o h found (omega (arith, c)) past (enclosing names text at close e c found few)
+    brackets_prefix names text at to o h ∙ clipped names text at to close o h found (omega (arith, c)) past (enclosing names text at close e c found few)
 
 pub brackets_open : (names : Names) (text opening closing : Bytes) (at to close : ℕ) → opening ≡ opening_of names → begins opening (drop at text) ≡ true → at ≤ to → to ≤ length text → at + 2 + 2 ≤ to
     → closing ≡ closing_of names → close ≡ next_place closing (at + 2) text → to < close + 2
@@ -190,7 +190,7 @@ pub brackets_closed : (names : Names) (text opening closing : Bytes) (at to clos
 brackets_closed names text opening closing at to close i e o h j c in_time few =
     let d = placed names text closing (at + 2) close j c in
     let start = at + 2 in
-    brackets_front names text at to o h
+    brackets_prefix names text at to o h
     ∙ ap (option_and_then (clip 2 2 (to - at))) (enclosing names text at close (begun names text opening at i e) d (omega (arith, in_time, h)) few)
     ∙ clip_kept 2 2 (to - at) (close - start) (between start close text) (drop (close + 2) text) (inner_long text start close (omega (arith, in_time, h))) (omega (arith, in_time, d))
     ∙ ap (λ k. Some (between start close text, take k (drop (close + 2) text))) (let z : to - at - (2 + (close - start) + 2) ≡ to - (close + 2) = omega (arith, d) in z)

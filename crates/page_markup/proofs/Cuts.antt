@@ -11,14 +11,14 @@ use Rattle.std.specs.Str.{IsUtf8, IsCharBoundary}
 use Rattle.wiki_model.specs.Bytes.{Bytes, begins, replaced, line_feed, space}
 use Rattle.page_markup.specs.declared.brackets.Names.{Names}
 use Rattle.page_markup.specs.declared.brackets.Names.TheVariants.{Links, Templates}
-use Rattle.page_markup.specs.Marks.{distance, next_place, opening_of, closing_of}
+use Rattle.page_markup.specs.Mark.{distance, next_place, opening_of, closing_of}
 use Rattle.page_markup.proofs.Places.{distance_here, distance_on, drop_drop, begins_fits}
 
 begins_is : (mark s : Bytes) → begins mark s ≡ true → mark ≡ take (length mark) s
 begins_is mark s e = same_text mark (take (length mark) s) (sym e)
 
-same_front : (a b : ℕ) (s t : Bytes) → a ∷ s ≡ b ∷ t → a ≡ b
-same_front a b s t e = ap (λ l. get_or l 0 0) e
+same_prefix : (a b : ℕ) (s t : Bytes) → a ∷ s ≡ b ∷ t → a ≡ b
+same_prefix a b s t e = ap (λ l. get_or l 0 0) e
 
 same_second : (a b c d : ℕ) (s t : Bytes) → a ∷ b ∷ s ≡ c ∷ d ∷ t → b ≡ d
 same_second a b c d s t e = ap (λ l. get_or l 1 0) e
@@ -26,7 +26,7 @@ same_second a b c d s t e = ap (λ l. get_or l 1 0) e
 -- the first byte of a mark that stands at a place
 pub first_of : (m : ℕ) (ms s : Bytes) (n : ℕ) → n < length s → begins (m ∷ ms) (drop n s) ≡ true → get_or s n 0 ≡ m
 first_of m ms s n l e =
-    sym (same_front m (get_or s n 0) ms (take (length ms) (drop (suc n) s))
+    sym (same_prefix m (get_or s n 0) ms (take (length ms) (drop (suc n) s))
     (begins_is (m ∷ ms) (drop n s) e ∙ ap (take (suc (length ms))) (drop-cons s n 0 l)))
 
 -- the mark stands at its next place

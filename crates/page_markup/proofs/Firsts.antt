@@ -5,7 +5,7 @@ use Rattle.std.proofs.Math.Seq.{drop-cons}
 use Rattle.wiki_model.specs.Bytes.{Bytes}
 use Rattle.wiki_model.specs.Html.{template_named}
 use Rattle.page_markup.specs.declared.inline.Mark.{Mark}
-use Rattle.page_markup.specs.Marks.{link_target, marks_here, all_quotes, bracket_marks}
+use Rattle.page_markup.specs.Mark.{link_target, marks_here, all_quotes, bracket_marks}
 use Rattle.page_markup.proofs.Singles.{differs}
 
 abbrev pub links : (at : ℕ) (text : Bytes) → List Mark

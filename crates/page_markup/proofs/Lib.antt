@@ -9,3 +9,4 @@ pub mod Refused
 pub mod Singles
 pub mod Taken
 pub mod Trees
+pub mod NamesInLine

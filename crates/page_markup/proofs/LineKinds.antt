@@ -74,8 +74,8 @@ end_stops s i l h = run_stops (reverse s) i (omega (arith, l, length-reverse s))
 pub end_ends : (s : Bytes) (i : ℕ) → length s ≤ i → run_of 61 (drop i (reverse s)) ≡ 0
 end_ends s i l = run_ends (reverse s) i (omega (arith, l, length-reverse s))
 
-pub cut_front : (line : Bytes) (level : ℕ) → IsUtf8 line → level ≡ heading_level line → 0 < level → IsCharBoundary line level
-cut_front line level u e some =
+pub cut_prefix : (line : Bytes) (level : ℕ) → IsUtf8 line → level ≡ heading_level line → 0 < level → IsCharBoundary line level
+cut_prefix line level u e some =
     let l : level - 1 < run_of 61 line = omega (arith, e, some) in
     let w = run_within line in
     let sign : get_or line (level - 1) 0 ≡ 61 = in_run line (level - 1) l in

@@ -12,7 +12,7 @@ use Rattle.wiki_model.specs.Bytes.{Bytes}
 use Rattle.wiki_model.specs.Titles.{Title}
 use Rattle.wiki_model.specs.Html.{bracketed, template_named}
 use Rattle.page_markup.specs.declared.inline.Mark.{Mark}
-use Rattle.page_markup.specs.Marks.{bracket_marks_of, named_marks_of}
+use Rattle.page_markup.specs.Mark.{bracket_marks_of, named_marks_of}
 use Rattle.page_markup.specs.Names.{listed, name_here, names_from, template_marks, template_marks_from, titles_of}
 
 titles_append : (xs ys : List Mark) → titles_of (xs ++ ys) ≡ titles_of xs ++ titles_of ys

@@ -13,8 +13,8 @@ use Rattle.std.proofs.Math.Seq.{drop-cons}
 use Rattle.wiki_model.specs.Bytes.{Bytes, begins, cut_at}
 use Rattle.wiki_model.specs.Html.{enclosed, bracketed}
 use Rattle.page_markup.specs.declared.inline.Mark.{Mark}
-use Rattle.page_markup.specs.declared.inline.Known.{Known}
-use Rattle.page_markup.specs.Marks.{distance, next_place, Remembers, quote_marks, quote_marks_of, bracket_marks, bracket_marks_of, named_marks_of, link_target, marks_here, marks_from, IsKnown}
+use Rattle.page_markup.specs.declared.closing_places.ClosingPlaces.{ClosingPlaces}
+use Rattle.page_markup.specs.Mark.{distance, next_place, Remembers, quote_marks, quote_marks_of, bracket_marks, bracket_marks_of, named_marks_of, link_target, marks_here, marks_from, IsKnown}
 
 pub drop_nil : (n : ℕ) → let none : Bytes = [] in drop n none ≡ none
 drop_nil zero = refl
@@ -261,7 +261,7 @@ marks_more old new at text h e i =
     ap (λ ms. ms ++ marks_from (at + 1) (drop (at + 1) text)) e ∙ append_assoc old (marks_here at (drop at text)) (marks_from (at + 1) (drop (at + 1) text))
     ∙ ap (λ ms. old ++ ms) (sym (marks_on at text h)) ∙ i
 
-pub known_next : (text : Bytes) (at : ℕ) (known : Known) → Remembers (codes "'''''") text (at + 6) known.five → Remembers (codes "'''") text (at + 4) known.three
+pub known_next : (text : Bytes) (at : ℕ) (known : ClosingPlaces) → Remembers (codes "'''''") text (at + 6) known.five → Remembers (codes "'''") text (at + 4) known.three
     → Remembers (codes "''") text (at + 3) known.two → Remembers (codes "]]") text (at + 2) known.brackets → Remembers (codes "}}") text (at + 2) known.braces
     → IsKnown text (at + 1) known
 known_next text at known five three two brackets braces = record {
@@ -272,15 +272,15 @@ known_next text at known five three two brackets braces = record {
   braces = remembers_past (codes "}}") text (at + 2) (at + 1 + 2) known.braces braces (omega arith);
 }
 
-pub known_on : (text : Bytes) (at : ℕ) (known : Known) → IsKnown text at known → IsKnown text (at + 1) known
+pub known_on : (text : Bytes) (at : ℕ) (known : ClosingPlaces) → IsKnown text at known → IsKnown text (at + 1) known
 known_on text at known k = known_next text at known k.five k.three k.two k.brackets k.braces
 
 -- what is known at a place is known at later ones
-later_by : (text : Bytes) (at n : ℕ) (known : Known) → IsKnown text at known → IsKnown text (at + n) known
+later_by : (text : Bytes) (at n : ℕ) (known : ClosingPlaces) → IsKnown text at known → IsKnown text (at + n) known
 later_by text at zero known k = let P : ℕ → Type 0 = λ m. IsKnown text m known in subst P (let z : at ≡ at + 0 = omega arith in z) k
 later_by text at (suc n) known k =
     let P : ℕ → Type 0 = λ m. IsKnown text m known in subst P (let z : at + n + 1 ≡ at + suc n = omega arith in z) (known_on text (at + n) known (later_by text at n known k))
 
-pub known_later : (text : Bytes) (at later : ℕ) (known : Known) → IsKnown text at known → at ≤ later → IsKnown text later known
+pub known_later : (text : Bytes) (at later : ℕ) (known : ClosingPlaces) → IsKnown text at known → at ≤ later → IsKnown text later known
 known_later text at later known k h =
     let P : ℕ → Type 0 = λ m. IsKnown text m known in subst P (let z : at + (later - at) ≡ later = omega (arith, h) in z) (later_by text at (later - at) known k)

@@ -1,4 +1,4 @@
--- The title of a template whose name is of letters and digits.
+-- The title of a template whose name is of bytes and digits.
 use Rattle.std.proofs.Common.{suc, [], ◌∷◌, ◌++◌, List, length, drop, ◌≡◌, ℕ, ◌≤◌, ◌<◌, ◌+◌, ◌-◌, Bool, true, false, refl, arith, ap, sym, ◌∙◌, Some, None, nat_eq, nat_lt, nat_le, get_or, cond}
 use Rattle.std.specs.Prelude.{not, filter, ◌&&◌, position, option_and_then, if◌then◌else◌}
 use Rattle.std.specs.List.{join_with_byte, list_all, position_or_len}

@@ -4,7 +4,7 @@ use Rattle.std.proofs.lemmas.Bool.Decides.{nat_tests}
 use Rattle.std.proofs.lemmas.List.{length-drop}
 use Rattle.std.proofs.Math.Seq.{drop-cons}
 use Rattle.wiki_model.specs.Bytes.{Bytes, begins}
-use Rattle.page_markup.specs.Marks.{distance, next_place}
+use Rattle.page_markup.specs.Mark.{distance, next_place}
 use Rattle.page_markup.proofs.Places.{distance_here, distance_within, place_on}
 use Rattle.page_markup.proofs.Cuts.{begins_one}
 

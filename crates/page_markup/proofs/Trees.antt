@@ -5,12 +5,12 @@ use Rattle.std.proofs.lemmas.Bool.Decides.{nat_tests}
 use Rattle.std.proofs.lemmas.List.{length-drop, take_all, drop_all, get_or-drop}
 use Rattle.std.proofs.Math.Nat.{eq-or-lt_of_le}
 use Rattle.wiki_model.specs.Bytes.{Bytes, line_feed, pieces, in_first}
-use Rattle.wiki_model.specs.Html.{Line, Blank, HeadingLine, ItemLine, PlainLine, Gap, Items, line_of, blocks_of, with_front, with_item, with_line}
+use Rattle.wiki_model.specs.Html.{Line, Blank, HeadingLine, ItemLine, PlainLine, Gap, Items, line_of, blocks_of, with_prefix, with_item, with_line}
 use Rattle.wiki_model.specs.Html as html
-use Rattle.page_markup.specs.declared.blocks.Block.{Block}
-use Rattle.page_markup.specs.declared.blocks.BlockKind.TheVariants.{Heading}
+use Rattle.page_markup.specs.declared.tree.Block.{Block}
+use Rattle.page_markup.specs.declared.tree.BlockKind.TheVariants.{Heading}
 use Rattle.page_markup.specs.declared.inline.Inline.{Inline}
-use Rattle.page_markup.specs.Marks.{distance, next_place}
+use Rattle.page_markup.specs.Mark.{distance, next_place}
 use Rattle.page_markup.specs.Tree.{inline_of, tree_blocks, tree_from}
 use Rattle.page_markup.specs.Runs.{lines_from, items_then, paragraph_then, list_block, paragraph_block}
 use Rattle.page_markup.proofs.Places.{distance_here, distance_on, distance_within, drop_drop}
@@ -51,41 +51,41 @@ first_piece [] h = let no : ⊥ = omega (arith, h) in absurd no
 first_piece (c ∷ s) h = first_piece_by c s (nat_eq 10 c) refl (first_piece s) h
 
 -- A line more, for what makes no difference between the text's end and a gap.
-line_more_by : {X : Type 0} (F : List html.Block → X) (s : Bytes) → F (with_front (line_of s) []) ≡ F (with_front (line_of s) (Gap ∷ []))
+line_more_by : {X : Type 0} (F : List html.Block → X) (s : Bytes) → F (with_prefix (line_of s) []) ≡ F (with_prefix (line_of s) (Gap ∷ []))
     → (distance feed s ≡ length s) ⊎ (distance feed s < length s)
-    → F (lines_from s) ≡ F (with_front (line_of (take (distance feed s) s)) (lines_from (drop (suc (distance feed s)) s)))
+    → F (lines_from s) ≡ F (with_prefix (line_of (take (distance feed s) s)) (lines_from (drop (suc (distance feed s)) s)))
 line_more_by F s same (inl e) =
     let d = distance feed s in
     let whole : take d s ≡ s = take_all d s (omega (arith, e)) in
     let none : drop (suc d) s ≡ [] = drop_all (suc d) s (omega (arith, e)) in
     ap (λ ps. F (blocks_of (map line_of ps))) (last_piece s (omega (arith, e))) ∙ same
-    ∙ ap (λ t. F (with_front (line_of t) (Gap ∷ []))) (sym whole) ∙ ap (λ t. F (with_front (line_of (take d s)) (lines_from t))) (sym none)
+    ∙ ap (λ t. F (with_prefix (line_of t) (Gap ∷ []))) (sym whole) ∙ ap (λ t. F (with_prefix (line_of (take d s)) (lines_from t))) (sym none)
 line_more_by F s same (inr l) = ap (λ ps. F (blocks_of (map line_of ps))) (first_piece s l)
 
-pub line_more : {X : Type 0} (F : List html.Block → X) (text : Bytes) (at end : ℕ) → ((l : Line) → F (with_front l []) ≡ F (with_front l (Gap ∷ [])))
+pub line_more : {X : Type 0} (F : List html.Block → X) (text : Bytes) (at end : ℕ) → ((l : Line) → F (with_prefix l []) ≡ F (with_prefix l (Gap ∷ [])))
     → end ≡ next_place feed at text
-    → F (lines_from (drop at text)) ≡ F (with_front (line_of (take (end - at) (drop at text))) (lines_from (drop (end + 1) text)))
+    → F (lines_from (drop at text)) ≡ F (with_prefix (line_of (take (end - at) (drop at text))) (lines_from (drop (end + 1) text)))
 line_more F text at end same e =
     let s = drop at text in
     let d = distance feed s in
     line_more_by F s (same (line_of s)) (eq-or-lt_of_le (distance_within feed s))
-    ∙ ap (λ k. F (with_front (line_of (take k s)) (lines_from (drop (suc d) s)))) (let z : d ≡ end - at = omega (arith, e) in z)
-    ∙ ap (λ t. F (with_front (line_of (take (end - at) s)) (lines_from t))) (drop_drop (suc d) at text ∙ ap (λ k. drop k text) (let z : at + suc d ≡ end + 1 = omega (arith, e) in z))
+    ∙ ap (λ k. F (with_prefix (line_of (take k s)) (lines_from (drop (suc d) s)))) (let z : d ≡ end - at = omega (arith, e) in z)
+    ∙ ap (λ t. F (with_prefix (line_of (take (end - at) s)) (lines_from t))) (drop_drop (suc d) at text ∙ ap (λ k. drop k text) (let z : at + suc d ≡ end + 1 = omega (arith, e) in z))
 
 -- no difference
-tree_same : (l : Line) → tree_blocks (with_front l []) ≡ tree_blocks (with_front l (Gap ∷ []))
+tree_same : (l : Line) → tree_blocks (with_prefix l []) ≡ tree_blocks (with_prefix l (Gap ∷ []))
 tree_same Blank = refl
 tree_same (HeadingLine n m) = refl
 tree_same (ItemLine t) = refl
 tree_same (PlainLine t) = refl
 
-items_same : (ps : List Inline) (l : Line) → items_then ps (with_front l []) ≡ items_then ps (with_front l (Gap ∷ []))
+items_same : (ps : List Inline) (l : Line) → items_then ps (with_prefix l []) ≡ items_then ps (with_prefix l (Gap ∷ []))
 items_same ps Blank = refl
 items_same ps (HeadingLine n m) = refl
 items_same ps (ItemLine t) = refl
 items_same ps (PlainLine t) = refl
 
-paragraph_same : (p : Bytes) (l : Line) → paragraph_then p (with_front l []) ≡ paragraph_then p (with_front l (Gap ∷ []))
+paragraph_same : (p : Bytes) (l : Line) → paragraph_then p (with_prefix l []) ≡ paragraph_then p (with_prefix l (Gap ∷ []))
 paragraph_same p Blank = refl
 paragraph_same p (HeadingLine n m) = refl
 paragraph_same p (ItemLine t) = refl
@@ -119,7 +119,7 @@ IsNoItem (HeadingLine n m) = ⊤
 IsNoItem (ItemLine t) = ⊥
 IsNoItem (PlainLine t) = ⊤
 
-items_end : (ps : List Inline) (l : Line) (bs : List html.Block) → IsNoItem l → items_then ps (with_front l bs) ≡ list_block ps ∷ tree_blocks (with_front l bs)
+items_end : (ps : List Inline) (l : Line) (bs : List html.Block) → IsNoItem l → items_then ps (with_prefix l bs) ≡ list_block ps ∷ tree_blocks (with_prefix l bs)
 items_end ps Blank bs h = refl
 items_end ps (HeadingLine n m) bs h = refl
 items_end ps (ItemLine t) bs h = absurd h
@@ -152,7 +152,7 @@ IsNotPlain (HeadingLine n m) = ⊤
 IsNotPlain (ItemLine t) = ⊤
 IsNotPlain (PlainLine t) = ⊥
 
-paragraph_end : (p : Bytes) (l : Line) (bs : List html.Block) → IsNotPlain l → paragraph_then p (with_front l bs) ≡ paragraph_block p ∷ tree_blocks (with_front l bs)
+paragraph_end : (p : Bytes) (l : Line) (bs : List html.Block) → IsNotPlain l → paragraph_then p (with_prefix l bs) ≡ paragraph_block p ∷ tree_blocks (with_prefix l bs)
 paragraph_end p Blank bs h = refl
 paragraph_end p (HeadingLine n m) bs h = refl
 paragraph_end p (ItemLine t) bs h = paragraph_end_item p t bs
@@ -163,8 +163,8 @@ abbrev pub line_between : (text : Bytes) (at end : ℕ) → Bytes
 line_between text at end = take (end - at) (drop at text)
 
 pub tree_line : (text : Bytes) (at end : ℕ) (l : Line) → end ≡ next_place feed at text → line_of (line_between text at end) ≡ l
-    → tree_from (drop at text) ≡ tree_blocks (with_front l (lines_from (drop (end + 1) text)))
-tree_line text at end l e k = line_more tree_blocks text at end tree_same e ∙ ap (λ x. tree_blocks (with_front x (lines_from (drop (end + 1) text)))) k
+    → tree_from (drop at text) ≡ tree_blocks (with_prefix l (lines_from (drop (end + 1) text)))
+tree_line text at end l e k = line_more tree_blocks text at end tree_same e ∙ ap (λ x. tree_blocks (with_prefix x (lines_from (drop (end + 1) text)))) k
 
 pub blank_goes : (old : List Block) (text : Bytes) (at end : ℕ) → end ≡ next_place feed at text → line_of (line_between text at end) ≡ Blank
     → old ++ tree_from (drop (end + 1) text) ≡ old ++ tree_from (drop at text)
@@ -201,7 +201,7 @@ pub item_more : (ps qs : List Inline) (text t : Bytes) (end next : ℕ) → next
     → items_then qs (lines_from (drop (next + 1) text)) ≡ items_then ps (lines_from (drop (end + 1) text))
 item_more ps qs text t end next e k w =
     sym (line_more (items_then ps) text (end + 1) next (items_same ps) e
-    ∙ ap (λ l. items_then ps (with_front l (lines_from (drop (next + 1) text)))) k ∙ items_go ps t (lines_from (drop (next + 1) text))
+    ∙ ap (λ l. items_then ps (with_prefix l (lines_from (drop (next + 1) text)))) k ∙ items_go ps t (lines_from (drop (next + 1) text))
     ∙ ap (λ us. items_then us (lines_from (drop (next + 1) text))) (sym w))
 
 items_stop : (ps : List Inline) (text : Bytes) (end next : ℕ) → next ≡ next_place feed (end + 1) text → IsNoItem (line_of (line_between text (end + 1) next))
@@ -246,7 +246,7 @@ line_joined text from end next a b l f e k =
     let t = line_between text (end + 1) next in
     let bs = lines_from (drop (next + 1) text) in
     ap (λ q. paragraph_then q bs) (joined text from end next a b l f) ∙ sym (paragraph_goes_on p t bs)
-    ∙ sym (line_more (paragraph_then p) text (end + 1) next (paragraph_same p) e ∙ ap (λ x. paragraph_then p (with_front x bs)) k)
+    ∙ sym (line_more (paragraph_then p) text (end + 1) next (paragraph_same p) e ∙ ap (λ x. paragraph_then p (with_prefix x bs)) k)
 
 paragraph_stops : (p text : Bytes) (end next : ℕ) → next ≡ next_place feed (end + 1) text → IsNotPlain (line_of (line_between text (end + 1) next))
     → paragraph_then p (lines_from (drop (end + 1) text)) ≡ paragraph_block p ∷ tree_from (drop (end + 1) text)

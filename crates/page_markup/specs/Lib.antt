@@ -1,7 +1,7 @@
-pub mod Lines
-pub mod Marks
+pub mod ClosingPlaces
+pub mod Line
+pub mod Mark
 pub mod Names
+pub mod OneLine
 pub mod Runs
-pub mod Spaced
 pub mod Tree
-pub mod Within

@@ -3,11 +3,11 @@ use Rattle.std.specs.Prelude.{ℕ, suc, Bool, List, [], ◌∷◌, ◌++◌, len
 use Rattle.std.specs.List.{Contains, list_all}
 use Rattle.std.specs.List.Sorted.{IsStrictlySortedBy}
 use Rattle.wiki_titles.specs.Order.{bytes_cmp}
-use Rattle.wiki_model.specs.Bytes.{Bytes}
+use Rattle.wiki_model.specs.Bytes.{Bytes, line_feed, replaced, space}
 use Rattle.wiki_model.specs.Titles.{Title, is_letter, is_digit}
 use Rattle.wiki_model.specs.Html.{bracketed, template_named}
 use Rattle.page_markup.specs.declared.inline.Mark.{Mark}
-use Rattle.page_markup.specs.Marks.{bracket_marks}
+use Rattle.page_markup.specs.Mark.{bracket_marks}
 
 abbrev pub listed : Option Title → List Title
 listed None = []
@@ -16,6 +16,10 @@ listed (Some title) = title ∷ []
 -- the template that a text which begins with braces names
 abbrev pub name_here : Bytes → List Title
 name_here text = listed (option_and_then (λ p. template_named p.0) (bracketed (codes "{{") (codes "}}") text))
+
+-- the same when the text is read in one line
+abbrev pub name_in_line : Bytes → List Title
+name_in_line text = name_here (replaced line_feed space text)
 
 abbrev pub names_from : Bytes → List Title
 names_from [] = []
@@ -38,7 +42,7 @@ abbrev pub titles_of : List Mark → List Title
 titles_of [] = []
 titles_of (mark ∷ marks) = listed mark.title ++ titles_of marks
 
--- a name of letters and digits alone, which is short enough for the title of a template
+-- a name of bytes and digits alone, which is short enough for the title of a template
 abbrev pub is_word : ℕ → Bool
 is_word c = is_letter c || is_digit c
 

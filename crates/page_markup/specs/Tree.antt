@@ -4,11 +4,11 @@ use Rattle.wiki_model.specs.Bytes.{Bytes, pieces, line_feed}
 use Rattle.wiki_model.specs.Titles.{Text}
 use Rattle.wiki_model.specs.Html.{Gap, Items, blocks_of, line_of}
 use Rattle.wiki_model.specs.Html as html
-use Rattle.page_markup.specs.Marks.{marks_from}
+use Rattle.page_markup.specs.Mark.{marks_from}
 use Rattle.page_markup.specs.declared.inline.Inline.{Inline}
-use Rattle.page_markup.specs.declared.blocks.Block.{Block}
-use Rattle.page_markup.specs.declared.blocks.BlockKind.TheVariants.{Heading, List as ListOf, Paragraph}
-use Rattle.page_markup.specs.declared.blocks.Tree.{Tree}
+use Rattle.page_markup.specs.declared.tree.Block.{Block}
+use Rattle.page_markup.specs.declared.tree.BlockKind.TheVariants.{Heading, List as ListOf, Paragraph}
+use Rattle.page_markup.specs.declared.tree.Tree.{Tree}
 
 abbrev pub inline_of : Bytes → Inline
 inline_of text = record { text = text; marks = marks_from 0 text }

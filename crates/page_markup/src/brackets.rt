@@ -3,18 +3,22 @@ ghost use Rattle.std.specs.Prelude.{◌≡◌, ◌≤◌, ◌<◌, ◌+◌, ℕ,
 ghost use Rattle.wiki_model.specs.Titles.{is_bad, title_of, template_prefix};
 ghost use Rattle.wiki_model.specs.Bytes.{begins};
 ghost use Rattle.wiki_model.specs.Html.{template_named, ok_of, target_and_label};
-ghost use Rattle.page_markup.specs.Marks.{bracket_marks, Remembers, named_by, link_target, rule_of, opening_of, closing_of};
+ghost use Rattle.wiki_model.specs.Limits.{brackets_max, text_max};
+ghost use Rattle.page_markup.specs.Mark.{bracket_marks_at, Remembers, named_by, link_target, rule_of, opening_of, closing_of};
 
-use crate::finder;
+use crate::closing_places::BRACKET_MAX;
+use crate::find_mark;
 use crate::inline::Mark;
-use crate::spaces::part;
+use crate::one_line::part;
 use std::alloc::{AllocError, Global};
 use wiki_titles::{Title, TitleFault};
 
 /// What a text between brackets names.
 #[derive(Clone, Copy, Debug, PartialEq, Eq)]
 pub enum Names {
+    /// `[[`: the title that a link leads to.
     Links,
+    /// `{{`: the title of a template's page.
     Templates,
 }
 
@@ -28,6 +32,7 @@ impl Names {
         }
     }
 
+    /// The two opening brackets.
     pub fn opening(self) -> &'static [u8]
         ensures { result.now ≡ opening_of self }
     {
@@ -37,6 +42,7 @@ impl Names {
         }
     }
 
+    /// The two closing brackets.
     pub fn closing(self) -> &'static [u8]
         ensures { result.now ≡ closing_of self }
     {
@@ -45,32 +51,6 @@ impl Names {
             Names::Templates => b"}}",
         }
     }
-}
-
-/// The title that a text names, if it names one.
-fn title_named(alloc: Global, text: &str) -> Result<Option<Title>, AllocError>
-    ensures { IfOk result (λ title. title ≡ ok_of (title_of text.now)) }
-{
-    match Title::parse(alloc, text) {
-        Ok(title) => Ok(Some(title)),
-        Err(TitleFault::Memory) => Err(AllocError),
-        Err(_) => Ok(None),
-    }
-}
-
-/// The place of the first byte that no title has.
-fn first_bad(inner: &[u8]) -> Option<usize>
-    ensures { result ≡ position is_bad inner.now }
-{
-    inner.iter().position(|c| wiki_titles::is_bad(*c))
-}
-
-/// The text before the first bar, or all of it.
-fn before_bar(inner: &str) -> &str
-    ensures { result.now ≡ (target_and_label inner.now).0 }
-{
-    let bar = finder::find_byte(inner, b'|', 0);
-    part(inner, 0, bar)
 }
 
 /// The title that a link leads to whose brackets enclose this text, if it leads to one.
@@ -86,16 +66,18 @@ pub fn link_title(alloc: Global, inner: &str) -> Result<Option<Title>, AllocErro
     title_named(alloc, before_bar(inner))
 }
 
-fn is_template(title: &Title) -> bool
-    ensures { result ≡ begins template_prefix title.now }
+/// The text before the first bar, or all of it.
+fn before_bar(inner: &str) -> &str
+    ensures { result.now ≡ (target_and_label inner.now).0 }
 {
-    title.text().as_bytes().starts_with(b"Template:")
+    let bar = find_mark::find_byte(inner, b'|', 0);
+    part(inner, 0, bar)
 }
 
-/// The title of the template that a text of at most 512 bytes names, if it names one.
+/// The title of the template that a text of at most [`BRACKET_MAX`](crate::BRACKET_MAX) bytes names, if it names one.
 #[tactic(auto, using(crate::proofs::Refused::template_refused))]
 pub fn template_title(alloc: Global, inner: &str) -> Result<Option<Title>, AllocError>
-    requires { length inner.now ≤ 512 }
+    requires { length inner.now ≤ brackets_max }
     ensures { IfOk result (λ title. title ≡ template_named inner.now) }
 {
     if let Some(_bad) = first_bad(inner.as_bytes()) {
@@ -116,13 +98,27 @@ pub fn template_title(alloc: Global, inner: &str) -> Result<Option<Title>, Alloc
     }
 }
 
-fn read_name(alloc: Global, names: Names, inner: &str) -> Result<Option<Title>, AllocError>
-    requires { length inner.now ≤ 512 }
-    ensures { IfOk result (λ title. title ≡ named_by names inner.now) }
+fn is_template(title: &Title) -> bool
+    ensures { result ≡ begins template_prefix title.now }
 {
-    match names {
-        Names::Links => link_title(alloc, inner),
-        Names::Templates => template_title(alloc, inner),
+    title.text().as_bytes().starts_with(b"Template:")
+}
+
+/// The place of the first byte that no title has.
+fn first_bad(inner: &[u8]) -> Option<usize>
+    ensures { result ≡ position is_bad inner.now }
+{
+    inner.iter().position(|c| wiki_titles::is_bad(*c))
+}
+
+/// The title that a text names, if it names one.
+fn title_named(alloc: Global, text: &str) -> Result<Option<Title>, AllocError>
+    ensures { IfOk result (λ title. title ≡ ok_of (title_of text.now)) }
+{
+    match Title::parse(alloc, text) {
+        Ok(title) => Ok(Some(title)),
+        Err(TitleFault::Memory) => Err(AllocError),
+        Err(_) => Ok(None),
     }
 }
 
@@ -137,17 +133,17 @@ pub fn read_brackets(
     known: usize,
 ) -> Result<usize, AllocError>
     requires within { at ≤ length text.now }
-    requires small { length text.now ≤ 65536 }
+    requires small { length text.now ≤ text_max }
     requires remembered { Remembers (closing_of names) text.now (at + 2) known }
-    ensures read { IfOk result (λ _. marks.new.items ≡ marks.old.items ++ bracket_marks (rule_of names) (opening_of names) (closing_of names) (named_by names) at (drop at text.now)) }
+    ensures read { IfOk result (λ _. marks.new.items ≡ marks.old.items ++ bracket_marks_at names at text.now) }
     ensures remembers { IfOk result (λ place. Remembers (closing_of names) text.now (at + 2) place) }
 {
-    if !finder::stands_at(text, names.opening(), at) {
+    if !find_mark::stands_at(text, names.opening(), at) {
         return Ok(known);
     }
     let start = at + 2;
-    let close = finder::next_place(text, names.closing(), known, start);
-    if close >= text.len() || close - start > 512 {
+    let close = find_mark::next_place(text, names.closing(), known, start);
+    if close >= text.len() || close - start > BRACKET_MAX {
         return Ok(close);
     }
     if let Some(title) = read_name(alloc, names, part(text, start, close))? {
@@ -159,4 +155,14 @@ pub fn read_brackets(
         })?;
     }
     Ok(close)
+}
+
+fn read_name(alloc: Global, names: Names, inner: &str) -> Result<Option<Title>, AllocError>
+    requires { length inner.now ≤ brackets_max }
+    ensures { IfOk result (λ title. title ≡ named_by names inner.now) }
+{
+    match names {
+        Names::Links => link_title(alloc, inner),
+        Names::Templates => template_title(alloc, inner),
+    }
 }

@@ -1,19 +1,21 @@
 -- Blocks and the page around them, a line at a time.
 use Rattle.std.proofs.Common.{[], ◌∷◌, ◌++◌, List, length, drop, map, ◌≡◌, ℕ, ◌≤◌, ◌+◌, refl, arith, ap, sym, ◌∙◌, append_assoc, append-nil}
-use Rattle.std.specs.Prelude.{codes, ⊤}
+use Rattle.std.specs.Prelude.{codes, Option, ⊤}
 use Rattle.std.proofs.lemmas.List.{drop_all}
 use Rattle.wiki_model.specs.Bytes.{Bytes}
-use Rattle.wiki_model.specs.Html.{Reader, Reading, Line, Blank, HeadingLine, ItemLine, PlainLine, Gap, Items, element, each_between, between, block, blocks, with_front, with_item, with_line, line_of, heading_tag, line_end}
+use Rattle.wiki_model.specs.Html.{Reader, Reading, inline, notice, Line, Blank, HeadingLine, ItemLine, PlainLine, Gap, Items, element, each_between, between, block, blocks, with_prefix, with_item, with_line, line_of, heading_tag, line_end}
 use Rattle.wiki_model.specs.Html as html
 use Rattle.page_markup.specs.declared.inline.Inline.{Inline}
-use Rattle.page_markup.specs.declared.blocks.Block.{Block}
-use Rattle.page_markup.specs.declared.blocks.BlockKind.{BlockKind}
-use Rattle.page_markup.specs.declared.blocks.BlockKind.TheVariants.{Heading, List as ListOf, Paragraph}
-use Rattle.page_markup.specs.Marks.{next_place}
+use Rattle.page_markup.specs.declared.tree.Block.{Block}
+use Rattle.page_markup.specs.declared.tree.BlockKind.{BlockKind}
+use Rattle.page_markup.specs.declared.tree.BlockKind.TheVariants.{Heading, List as ListOf, Paragraph}
+use Rattle.page_markup.specs.Mark.{next_place}
 use Rattle.page_markup.specs.Tree.{inline_of, tree_blocks, tree_from}
 use Rattle.page_markup.specs.Runs.{lines_from, paragraph_then, paragraph_block}
 use Rattle.page_markup.proofs.Trees.{feed, line_between, line_more, tree_line, paragraph_begins}
-use Rattle.page_render.specs.Parts.{blocks_from, ended_list, list_then, list_from, list_of}
+use Rattle.page_render.specs.AsModel.{Pairs, template_text, page_from}
+use Rattle.page_render.specs.Blocks.{blocks_from, ended_list, list_then, list_from, list_of, with_blocks, with_list, with_list_end, with_new_list, page_after}
+use Rattle.page_render.specs.Draft.{Draft, put, reader, reads, then_reads}
 
 -- a tree is read as its blocks are
 abbrev pub texts_of : List Inline → List Bytes
@@ -59,13 +61,13 @@ tree_read read (html.Paragraph text ∷ cs) n =
     (one_between read (codes "<p>") (codes "</p>" ++ line_end) text n) (λ m. tree_read read cs m)
 
 -- the text's end and a gap make no difference
-blocks_same : (read : Reader) (n : ℕ) (l : Line) → (blocks read n (with_front l [])).html ≡ (blocks read n (with_front l (Gap ∷ []))).html
+blocks_same : (read : Reader) (n : ℕ) (l : Line) → (blocks read n (with_prefix l [])).html ≡ (blocks read n (with_prefix l (Gap ∷ []))).html
 blocks_same read n Blank = refl
 blocks_same read n (HeadingLine level middle) = refl
 blocks_same read n (ItemLine t) = refl
 blocks_same read n (PlainLine t) = refl
 
-list_same : (read : Reader) (n : ℕ) (l : Line) → list_then read n (with_front l []) ≡ list_then read n (with_front l (Gap ∷ []))
+list_same : (read : Reader) (n : ℕ) (l : Line) → list_then read n (with_prefix l []) ≡ list_then read n (with_prefix l (Gap ∷ []))
 list_same read n Blank = refl
 list_same read n (HeadingLine level middle) = refl
 list_same read n (ItemLine t) = refl
@@ -73,9 +75,9 @@ list_same read n (PlainLine t) = refl
 
 -- the first line of a text
 first_line : (read : Reader) (n : ℕ) (text : Bytes) (at end : ℕ) (l : Line) → end ≡ next_place feed at text → line_of (line_between text at end) ≡ l
-    → blocks_from read n (drop at text) ≡ (blocks read n (with_front l (lines_from (drop (end + 1) text)))).html
+    → blocks_from read n (drop at text) ≡ (blocks read n (with_prefix l (lines_from (drop (end + 1) text)))).html
 first_line read n text at end l e k =
-    line_more (λ bs. (blocks read n bs).html) text at end (blocks_same read n) e ∙ ap (λ x. (blocks read n (with_front x (lines_from (drop (end + 1) text)))).html) k
+    line_more (λ bs. (blocks read n bs).html) text at end (blocks_same read n) e ∙ ap (λ x. (blocks read n (with_prefix x (lines_from (drop (end + 1) text)))).html) k
 
 pub blank_goes : (read : Reader) (n : ℕ) (text old : Bytes) (at end : ℕ) → end ≡ next_place feed at text → line_of (line_between text at end) ≡ Blank
     → old ++ blocks_from read n (drop (end + 1) text) ≡ old ++ blocks_from read n (drop at text)
@@ -84,10 +86,10 @@ blank_goes read n text old at end e k = ap (λ x. old ++ x) (sym (first_line rea
 written : (old new a b c : Bytes) → new ≡ old ++ a → c ≡ a ++ b → new ++ b ≡ old ++ c
 written old new a b c e f = ap (λ x. x ++ b) e ∙ append_assoc old a b ∙ ap (λ x. old ++ x) (sym f)
 
-pub heading_goes : (read : Reader) (n m level : ℕ) (text old new middle : Bytes) (at end : ℕ) → end ≡ next_place feed at text → line_of (line_between text at end) ≡ HeadingLine level middle
+pub heading_written : (read : Reader) (n m level : ℕ) (text old new middle : Bytes) (at end : ℕ) → end ≡ next_place feed at text → line_of (line_between text at end) ≡ HeadingLine level middle
     → new ≡ old ++ element (heading_tag (codes "<h") level) (heading_tag (codes "</h") level ++ line_end) (read n middle).html → m ≡ (read n middle).included
     → new ++ blocks_from read m (drop (end + 1) text) ≡ old ++ blocks_from read n (drop at text)
-heading_goes read n m level text old new middle at end e k w i =
+heading_written read n m level text old new middle at end e k w i =
     let first = element (heading_tag (codes "<h") level) (heading_tag (codes "</h") level ++ line_end) (read n middle).html in
     written old new first (blocks_from read m (drop (end + 1) text)) (blocks_from read n (drop at text)) w
     (first_line read n text at end (HeadingLine level middle) e k ∙ ap (λ j. first ++ blocks_from read j (drop (end + 1) text)) (sym i))
@@ -114,12 +116,6 @@ list_begins read n t (Items us ∷ bs) =
     let others = each_between read (codes "<li>") (codes "</li>" ++ line_end) us (read n t).included in
     first_of_more (codes "<ul>" ++ line_end) (one_item (read n t).html) others.html (codes "</ul>" ++ line_end) (blocks read others.included bs).html
 
-pub list_goes : (read : Reader) (n m : ℕ) (text old new t : Bytes) (at end next : ℕ) → end ≡ next_place feed at text → line_of (line_between text at end) ≡ ItemLine t
-    → new ++ blocks_from read m (drop next text) ≡ old ++ list_of read n t (drop (end + 1) text)
-    → new ++ blocks_from read m (drop next text) ≡ old ++ blocks_from read n (drop at text)
-list_goes read n m text old new t at end next e k w =
-    w ∙ ap (λ x. old ++ x) (sym (first_line read n text at end (ItemLine t) e k ∙ list_begins read n t (lines_from (drop (end + 1) text))))
-
 item_alone : (read : Reader) (n : ℕ) (t : Bytes) (bs : List html.Block)
     → (one_item (read n t).html ++ []) ++ ((codes "</ul>" ++ line_end) ++ (blocks read (read n t).included bs).html)
     ≡ one_item (read n t).html ++ ((codes "</ul>" ++ line_end) ++ (blocks read (read n t).included bs).html)
@@ -134,13 +130,13 @@ item_then read n t (Items us ∷ bs) =
     let others = each_between read (codes "<li>") (codes "</li>" ++ line_end) us (read n t).included in
     append_assoc (one_item (read n t).html) others.html ((codes "</ul>" ++ line_end) ++ (blocks read others.included bs).html)
 
-pub item_more : (read : Reader) (n m : ℕ) (text old new t : Bytes) (end next : ℕ) → next ≡ next_place feed (end + 1) text → line_of (line_between text (end + 1) next) ≡ ItemLine t
+item_written : (read : Reader) (n m : ℕ) (text old new t : Bytes) (end next : ℕ) → next ≡ next_place feed (end + 1) text → line_of (line_between text (end + 1) next) ≡ ItemLine t
     → new ≡ old ++ element (codes "<li>") (codes "</li>" ++ line_end) (read n t).html → m ≡ (read n t).included
     → new ++ list_from read m (drop (next + 1) text) ≡ old ++ list_from read n (drop (end + 1) text)
-item_more read n m text old new t end next e k w i =
+item_written read n m text old new t end next e k w i =
     let first = element (codes "<li>") (codes "</li>" ++ line_end) (read n t).html in
     written old new first (list_from read m (drop (next + 1) text)) (list_from read n (drop (end + 1) text)) w
-    (line_more (list_then read n) text (end + 1) next (list_same read n) e ∙ ap (λ x. list_then read n (with_front x (lines_from (drop (next + 1) text)))) k
+    (line_more (list_then read n) text (end + 1) next (list_same read n) e ∙ ap (λ x. list_then read n (with_prefix x (lines_from (drop (next + 1) text)))) k
     ∙ item_then read n t (lines_from (drop (next + 1) text)) ∙ ap (λ j. first ++ list_from read j (drop (next + 1) text)) (sym i))
 
 line_ends : (read : Reader) (n : ℕ) (t : Bytes) (bs : List html.Block) → list_then read n (with_line t bs) ≡ (codes "</ul>" ++ line_end) ++ (blocks read n (with_line t bs)).html
@@ -156,7 +152,7 @@ IsNoItem (HeadingLine level middle) = ⊤
 IsNoItem (ItemLine t) = ⊥
 IsNoItem (PlainLine t) = ⊤
 
-list_ends : (read : Reader) (n : ℕ) (l : Line) (bs : List html.Block) → IsNoItem l → list_then read n (with_front l bs) ≡ (codes "</ul>" ++ line_end) ++ (blocks read n (with_front l bs)).html
+list_ends : (read : Reader) (n : ℕ) (l : Line) (bs : List html.Block) → IsNoItem l → list_then read n (with_prefix l bs) ≡ (codes "</ul>" ++ line_end) ++ (blocks read n (with_prefix l bs)).html
 list_ends read n Blank bs h = refl
 list_ends read n (HeadingLine level middle) bs h = refl
 list_ends read n (ItemLine t) bs h = absurd h
@@ -165,7 +161,7 @@ list_ends read n (PlainLine t) bs h = line_ends read n t bs
 list_to : (read : Reader) (n : ℕ) (text : Bytes) (end next : ℕ) (l : Line) → next ≡ next_place feed (end + 1) text → line_of (line_between text (end + 1) next) ≡ l → IsNoItem l
     → list_from read n (drop (end + 1) text) ≡ ended_list read n (drop (end + 1) text)
 list_to read n text end next l e k h =
-    line_more (list_then read n) text (end + 1) next (list_same read n) e ∙ ap (λ x. list_then read n (with_front x (lines_from (drop (next + 1) text)))) k
+    line_more (list_then read n) text (end + 1) next (list_same read n) e ∙ ap (λ x. list_then read n (with_prefix x (lines_from (drop (next + 1) text)))) k
     ∙ list_ends read n l (lines_from (drop (next + 1) text)) h
     ∙ ap (λ x. (codes "</ul>" ++ line_end) ++ x) (sym (first_line read n text (end + 1) next l e k))
 
@@ -186,19 +182,12 @@ list_last read n text end h =
     let none : drop (end + 1) text ≡ [] = drop_all (end + 1) text (omega (arith, h)) in
     ap (list_from read n) none ∙ sym (ap (ended_list read n) none)
 
--- the list put together
-pub list_joined : (old out1 out2 out3 out4 a b c d e : Bytes) → out1 ≡ old ++ a → out2 ≡ out1 ++ b → out3 ++ (c ++ d) ≡ out2 ++ e → out4 ≡ out3 ++ c
-    → out4 ++ d ≡ old ++ (a ++ (b ++ e))
-list_joined old o1 o2 o3 o4 a b c d e h1 h2 h3 h4 =
-    ap (λ x. x ++ d) h4 ∙ append_assoc o3 c d ∙ h3 ∙ ap (λ x. x ++ e) (h2 ∙ ap (λ x. x ++ b) h1)
-    ∙ (let j : ((old ++ a) ++ b) ++ e ≡ old ++ (a ++ (b ++ e)) = simp append_assoc in j)
-
 -- paragraphs
-pub paragraph_goes : (read : Reader) (n m : ℕ) (text old new p : Bytes) (at end last : ℕ) → end ≡ next_place feed at text → line_of (line_between text at end) ≡ PlainLine (line_between text at end)
+pub paragraph_written : (read : Reader) (n m : ℕ) (text old new p : Bytes) (at end last : ℕ) → end ≡ next_place feed at text → line_of (line_between text at end) ≡ PlainLine (line_between text at end)
     → paragraph_then (line_between text at end) (lines_from (drop (end + 1) text)) ≡ paragraph_block p ∷ tree_from (drop (last + 1) text)
     → new ≡ old ++ element (codes "<p>") (codes "</p>" ++ line_end) (read n p).html → m ≡ (read n p).included
     → new ++ blocks_from read m (drop (last + 1) text) ≡ old ++ blocks_from read n (drop at text)
-paragraph_goes read n m text old new p at end last e k run w i =
+paragraph_written read n m text old new p at end last e k run w i =
     let first = element (codes "<p>") (codes "</p>" ++ line_end) (read n p).html in
     let rest = drop (last + 1) text in
     let tree : tree_from (drop at text) ≡ paragraph_block p ∷ tree_from rest =
@@ -209,9 +198,71 @@ paragraph_goes read n m text old new p at end last e k run w i =
     ∙ ap (λ r. first ++ r.html) (tree_read read (lines_from rest) (read n p).included) in
     written old new first (blocks_from read m rest) (blocks_from read n (drop at text)) w (whole ∙ ap (λ j. first ++ blocks_from read j rest) (sym i))
 
+-- what a page is after each kind of block
+
+pub heading_goes : (d e : Draft) (depth level : ℕ) (text middle : Bytes) (at end : ℕ) → end ≡ next_place feed at text → line_of (line_between text at end) ≡ HeadingLine level middle
+    → e ≡ then_reads d (between (heading_tag (codes "<h") level) (heading_tag (codes "</h") level ++ line_end) (reads d depth middle))
+    → with_blocks e depth (drop (end + 1) text) ≡ with_blocks d depth (drop at text)
+heading_goes d e depth level text middle at end p l w =
+    let read = reads d depth middle in
+    ap (λ x. with_blocks x depth (drop (end + 1) text)) w
+    ∙ heading_written (reader d depth) d.included read.included level text d.html
+    (d.html ++ element (heading_tag (codes "<h") level) (heading_tag (codes "</h") level ++ line_end) read.html) middle at end p l refl refl
+
+pub paragraph_goes : (d e : Draft) (depth : ℕ) (text paragraph : Bytes) (at end last : ℕ) → end ≡ next_place feed at text → line_of (line_between text at end) ≡ PlainLine (line_between text at end)
+    → paragraph_then (line_between text at end) (lines_from (drop (end + 1) text)) ≡ paragraph_block paragraph ∷ tree_from (drop (last + 1) text)
+    → e ≡ then_reads d (between (codes "<p>") (codes "</p>" ++ line_end) (reads d depth paragraph))
+    → with_blocks e depth (drop (last + 1) text) ≡ with_blocks d depth (drop at text)
+paragraph_goes d e depth text paragraph at end last p l run w =
+    let read = reads d depth paragraph in
+    ap (λ x. with_blocks x depth (drop (last + 1) text)) w
+    ∙ paragraph_written (reader d depth) d.included read.included text d.html (d.html ++ element (codes "<p>") (codes "</p>" ++ line_end) read.html) paragraph at end last p l run refl refl
+
+pub list_goes : (d : Draft) (depth : ℕ) (text first made : Bytes) (at end : ℕ) → end ≡ next_place feed at text → line_of (line_between text at end) ≡ ItemLine first
+    → made ≡ with_new_list d depth first (drop (end + 1) text) → made ≡ with_blocks d depth (drop at text)
+list_goes d depth text first made at end p l w =
+    let read = reader d depth in
+    w ∙ ap (λ x. d.html ++ x) (sym (first_line read d.included text at end (ItemLine first) p l ∙ list_begins read d.included first (lines_from (drop (end + 1) text))))
+
+pub item_goes : (d e : Draft) (depth : ℕ) (text item : Bytes) (end next : ℕ) → next ≡ next_place feed (end + 1) text → line_of (line_between text (end + 1) next) ≡ ItemLine item
+    → e ≡ then_reads d (between (codes "<li>") (codes "</li>" ++ line_end) (reads d depth item))
+    → with_list e depth (drop (next + 1) text) ≡ with_list d depth (drop (end + 1) text)
+item_goes d e depth text item end next p l w =
+    let read = reads d depth item in
+    ap (λ x. with_list x depth (drop (next + 1) text)) w
+    ∙ item_written (reader d depth) d.included read.included text d.html (d.html ++ element (codes "<li>") (codes "</li>" ++ line_end) read.html) item end next p l refl refl
+
+-- a list put together
+pub list_joined : (old one two three new : Draft) (depth : ℕ) (first rest left : Bytes) → one ≡ put old (codes "<ul>" ++ line_end)
+    → two ≡ then_reads one (between (codes "<li>") (codes "</li>" ++ line_end) (reads one depth first))
+    → with_list_end three depth left ≡ with_list two depth rest → new ≡ put three (codes "</ul>" ++ line_end)
+    → with_blocks new depth left ≡ with_new_list old depth first rest
+list_joined old one two three new depth first rest left a b c e =
+    let read = reader old depth in
+    let item = read old.included first in
+    ap (λ d. with_blocks d depth left) e
+    ∙ append_assoc three.html (codes "</ul>" ++ line_end) (blocks_from (reader three depth) three.included left)
+    ∙ c
+    ∙ ap (λ d. with_list d depth rest) (b ∙ ap (λ d. then_reads d (between (codes "<li>") (codes "</li>" ++ line_end) (reads d depth first))) a)
+    ∙ append_assoc (old.html ++ (codes "<ul>" ++ line_end)) (one_item item.html) (list_from read item.included rest)
+    ∙ append_assoc old.html (codes "<ul>" ++ line_end) (one_item item.html ++ list_from read item.included rest)
+
 -- the page put together
-pub page_joined : (out0 out1 out2 out3 out4 out5 a b c d e : Bytes) → out1 ≡ out0 ++ a → out2 ≡ out1 ++ b → out3 ≡ out2 ++ c → out4 ≡ out3 ++ d → out5 ≡ out4 ++ e
-    → out5 ≡ out0 ++ ((((a ++ b) ++ c) ++ d) ++ e)
-page_joined o0 o1 o2 o3 o4 o5 a b c d e h1 h2 h3 h4 h5 =
-    h5 ∙ ap (λ x. x ++ e) (h4 ∙ ap (λ x. x ++ d) (h3 ∙ ap (λ x. x ++ c) (h2 ∙ ap (λ x. x ++ b) h1)))
-    ∙ (let j : ((((o0 ++ a) ++ b) ++ c) ++ d) ++ e ≡ o0 ++ ((((a ++ b) ++ c) ++ d) ++ e) = simp append_assoc in j)
+five_joined : (o a b c d e : Bytes) → ((((o ++ a) ++ b) ++ c) ++ d) ++ e ≡ o ++ ((((a ++ b) ++ c) ++ d) ++ e)
+five_joined o a b c d e = simp append_assoc
+
+pub page_joined : (old one two three four : Draft) (a b d page html : Bytes) (above : Option Bytes) (depth : ℕ) → one ≡ put old a → two ≡ put one b
+    → three ≡ then_reads two (notice (template_text two.templates) above) → four ≡ put three d → html ≡ with_blocks four depth page
+    → html ≡ old.html ++ ((((a ++ b) ++ (notice (template_text old.templates) above).html) ++ d)
+    ++ blocks_from (inline (template_text old.templates) depth) (notice (template_text old.templates) above).included page)
+page_joined old one two three four a b d page html above depth h1 h2 h3 h4 h5 =
+    let top = notice (template_text old.templates) above in
+    h5
+    ∙ ap (λ w. with_blocks w depth page)
+    (h4 ∙ ap (λ w. put w d) (h3 ∙ ap (λ w. then_reads w (notice (template_text w.templates) above)) (h2 ∙ ap (λ w. put w b) h1)))
+    ∙ five_joined old.html a b top.html d (blocks_from (inline (template_text old.templates) depth) top.included page)
+
+-- a page that was empty when it was begun is the page of its inputs
+pub page_begun : (old : Draft) (html : Bytes) (pairs : Pairs) (markup : ℕ) (title text : Bytes) (notice : Option Bytes) → old ≡ record { html = []; included = 0; templates = pairs }
+    → html ≡ page_after old markup title text notice → html ≡ page_from markup title text pairs notice
+page_begun old html pairs markup title text notice empty made = made ∙ ap (λ (d : Draft). page_after d markup title text notice) empty

@@ -5,8 +5,9 @@ use Rattle.std.proofs.lemmas.List.{length-drop}
 use Rattle.std.proofs.Math.Seq.{take-length}
 use Rattle.std.proofs.Math.Nat.{eq-or-lt_of_le}
 use Rattle.wiki_model.specs.Bytes.{Bytes, is_empty}
-use Rattle.wiki_model.specs.Html.{target_and_label}
-use Rattle.page_markup.specs.Marks.{distance, next_place}
+use Rattle.wiki_model.specs.Html.{target_and_label, element, between}
+use Rattle.page_markup.specs.Mark.{distance, next_place}
+use Rattle.page_render.specs.Draft.{Draft, put, reads, then_reads, with_text}
 use Rattle.page_markup.proofs.LineKinds.{empty_of, filled_of}
 use Rattle.page_markup.proofs.Places.{distance_within, cut_none, cut_some}
 
@@ -37,3 +38,18 @@ label_long s n e h =
 
 pub three_joined : (old new b u d : Bytes) → new ≡ ((old ++ b) ++ u) ++ d → new ≡ old ++ ((b ++ u) ++ d)
 three_joined old new b u d e = e ∙ (let j : ((old ++ b) ++ u) ++ d ≡ old ++ ((b ++ u) ++ d) = simp append_assoc in j)
+
+-- a text between two tags
+pub draft_joined : (old one two new : Draft) (opening closing text : Bytes) (depth : ℕ) → one ≡ put old opening → two ≡ with_text one depth text → new ≡ put two closing
+    → new ≡ then_reads old (between opening closing (reads old depth text))
+draft_joined old one two new opening closing text depth a b c =
+    let read = reads old depth text in
+    c ∙ ap (λ d. put d closing) (b ∙ ap (λ d. with_text d depth text) a)
+    ∙ ap (λ x. (let z : Draft = record { html = x; included = read.included; templates = old.templates } in z)) (three_joined old.html (((old.html ++ opening) ++ read.html) ++ closing) opening read.html closing refl)
+
+-- bytes between two tags
+pub put_joined : (old one two new : Draft) (opening closing bytes : Bytes) → one ≡ put old opening → two ≡ put one bytes → new ≡ put two closing
+    → new ≡ put old (element opening closing bytes)
+put_joined old one two new opening closing bytes a b c =
+    c ∙ ap (λ d. put d closing) (b ∙ ap (λ d. put d bytes) a)
+    ∙ ap (λ x. (let z : Draft = record { html = x; included = old.included; templates = old.templates } in z)) (three_joined old.html (((old.html ++ opening) ++ bytes) ++ closing) opening bytes closing refl)

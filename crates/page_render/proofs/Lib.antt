@@ -4,4 +4,5 @@ pub mod Labels
 pub mod Lookups
 pub mod Picks
 pub mod Runs
+pub mod Sorting
 pub mod Steps

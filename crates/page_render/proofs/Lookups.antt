@@ -17,61 +17,8 @@ use Rattle.wiki_model.specs.Bytes.{Bytes, begins}
 use Rattle.wiki_model.specs.Titles.{Title, template_prefix}
 use Rattle.wiki_model.specs.Html.{Templates, template_named}
 use Rattle.page_markup.proofs.Taken.{at_most_or_past}
-use Rattle.page_render.specs.Templates.{Pairs, IsRising, indexed, first_place, text_named}
-use Rattle.page_render.specs.Use.{template_text}
-
--- the text at the first place is the first text
-abbrev pub text_at : Pairs → Option ℕ → Option Bytes
-text_at pairs found = option_and_then (λ place. option_map (λ pair. pair.1) (slice_get pairs place)) found
-
-by_place : (pairs : Pairs) (at : ℕ) (rest : Pairs) (title : Title) (b : Bool) (p : Bytes × Bytes)
-    → option_map (λ pair. pair.1) (slice_get pairs at) ≡ Some p.1
-    → text_at pairs (first_place (suc at) rest title) ≡ template_text rest title
-    → text_at pairs (if b then Some at else first_place (suc at) rest title) ≡ (if b then Some p.1 else template_text rest title)
-by_place pairs at rest title true p e h = e
-by_place pairs at rest title false p e h = h
-
-get_drop : (pairs : Pairs) (at : ℕ) (p : Bytes × Bytes) (rest : Pairs) → drop at pairs ≡ p ∷ rest → slice_get pairs at ≡ Some p
-get_drop [] zero p rest e = let no : ⊥ = omega (arith, ap length e) in absurd no
-get_drop [] (suc at) p rest e = let no : ⊥ = omega (arith, ap length e) in absurd no
-get_drop (q ∷ pairs) zero p rest e = ap (λ l. slice_get l 0) e
-get_drop (q ∷ pairs) (suc at) p rest e = get_drop pairs at p rest e
-
-next_drop : (pairs : Pairs) (at : ℕ) (p : Bytes × Bytes) (rest : Pairs) → drop at pairs ≡ p ∷ rest → drop (suc at) pairs ≡ rest
-next_drop [] zero p rest e = let no : ⊥ = omega (arith, ap length e) in absurd no
-next_drop [] (suc at) p rest e = let no : ⊥ = omega (arith, ap length e) in absurd no
-next_drop (q ∷ pairs) zero p rest e = ap (drop 1) e
-next_drop (q ∷ pairs) (suc at) p rest e = next_drop pairs at p rest e
-
-first_text : (pairs : Pairs) (at : ℕ) (rest : Pairs) (title : Title) → drop at pairs ≡ rest → text_at pairs (first_place at rest title) ≡ template_text rest title
-first_text pairs at [] title e = refl
-first_text pairs at (p ∷ rest) title e =
-    by_place pairs at rest title (bytes_eq p.0 title) p (ap (λ o. option_map (λ pair. pair.1) o) (get_drop pairs at p rest e))
-    (first_text pairs (suc at) rest title (next_drop pairs at p rest e))
-
-pub index_serves : (index : BTreeMap Title ℕ) (pairs : Pairs) (title : Title) → get bytes_cmp index title ≡ first_place 0 pairs title → indexed index pairs title ≡ template_text pairs title
-index_serves index pairs title h = ap (text_at pairs) h ∙ first_text pairs 0 pairs title refl
-
--- a page more in front
-chosen : (b c : Bool) (place : ℕ) (old : Option ℕ) → b ≡ c → cond c (Some place) old ≡ (if b then Some place else old)
-chosen true c place old e = ap (λ x. cond x (Some place) old) (sym e)
-chosen false c place old e = ap (λ x. cond x (Some place) old) (sym e)
-
-pub entered : (old new : BTreeMap Title ℕ) (pairs : Pairs) (place : ℕ) (title : Title) (d : Bytes × Bytes) → place < length pairs
-    → ((t : Title) → get bytes_cmp old t ≡ first_place (place + 1) (drop (place + 1) pairs) t)
-    → Updates bytes_cmp old new (get_or pairs place d).0 (Some place)
-    → get bytes_cmp new title ≡ first_place place (drop place pairs) title
-entered old new pairs place title d l h u =
-    let p = get_or pairs place d in
-    let e : suc place ≡ place + 1 = omega arith in
-    u.0 title
-    ∙ chosen (bytes_eq p.0 title) (is_at (bytes_cmp p.0) title) place (get bytes_cmp old title) (texts_ties p.0 title)
-    ∙ ap (λ o. if bytes_eq p.0 title then Some place else o) (h title ∙ ap (λ k. first_place k (drop k pairs) title) (sym e))
-    ∙ ap (λ ps. first_place place ps title) (sym (drop-cons pairs place d l))
-
--- a template's name
-pub named : (templates : Templates) (name title : Bytes) → template_named name ≡ Some title → text_named templates name ≡ templates title
-named templates name title e = ap (option_and_then templates) e
+use Rattle.page_render.specs.AsModel.{Pairs, template_text}
+use Rattle.page_render.specs.Templates.{IsRising}
 
 -- rising titles
 rising_by : (pairs : Pairs) → IsRising pairs → (i n : ℕ) (d : Bytes × Bytes) → i + suc n < length pairs → bytes_cmp (get_or pairs i d).0 (get_or pairs (i + suc n) d).0 ≡ Less
@@ -100,28 +47,46 @@ nat_more x y h = rw (let z : nat_lt x y ≡ false = grind (arith, nat_tests) in 
 nat_same : (x y : ℕ) → x ≤ y → y ≤ x → nat_cmp x y ≡ Equal
 nat_same x y h k = rw (let z : nat_lt x y ≡ false = grind (arith, nat_tests) in z, let w : nat_eq x y ≡ true = grind (arith, nat_tests) in w) refl
 
-pub nothing_behind : (behind rest : Bytes) (first : ℕ) → length behind ≡ 0 → bytes_cmp behind (first ∷ rest) ≡ Less
-nothing_behind [] rest first e = refl
-nothing_behind (c ∷ behind) rest first e = let no : ⊥ = omega (arith, e) in absurd no
+pub nothing_after : (after rest : Bytes) (first : ℕ) → length after ≡ 0 → bytes_cmp after (first ∷ rest) ≡ Less
+nothing_after [] rest first e = refl
+nothing_after (c ∷ after) rest first e = let no : ⊥ = omega (arith, e) in absurd no
 
-pub first_below : (behind rest : Bytes) (first : ℕ) → 0 < length behind → get_or behind 0 0 < first → bytes_cmp behind (first ∷ rest) ≡ Less
+pub first_below : (after rest : Bytes) (first : ℕ) → 0 < length after → get_or after 0 0 < first → bytes_cmp after (first ∷ rest) ≡ Less
 first_below [] rest first l h = let no : ⊥ = omega (arith, l) in absurd no
-first_below (c ∷ behind) rest first l h = ap (λ o. ordering_then o (bytes_cmp behind rest)) (nat_less c first h)
+first_below (c ∷ after) rest first l h = ap (λ o. ordering_then o (bytes_cmp after rest)) (nat_less c first h)
 
-pub first_above : (behind rest : Bytes) (first : ℕ) → 0 < length behind → first < get_or behind 0 0 → bytes_cmp behind (first ∷ rest) ≡ Greater
+pub first_above : (after rest : Bytes) (first : ℕ) → 0 < length after → first < get_or after 0 0 → bytes_cmp after (first ∷ rest) ≡ Greater
 first_above [] rest first l h = let no : ⊥ = omega (arith, l) in absurd no
-first_above (c ∷ behind) rest first l h = ap (λ o. ordering_then o (bytes_cmp behind rest)) (nat_more c first h)
+first_above (c ∷ after) rest first l h = ap (λ o. ordering_then o (bytes_cmp after rest)) (nat_more c first h)
 
-pub first_alike : (behind rest : Bytes) (first : ℕ) → 0 < length behind → first ≤ get_or behind 0 0 → get_or behind 0 0 ≤ first
-    → bytes_cmp behind (first ∷ rest) ≡ bytes_cmp (drop 1 behind) rest
+pub first_alike : (after rest : Bytes) (first : ℕ) → 0 < length after → first ≤ get_or after 0 0 → get_or after 0 0 ≤ first
+    → bytes_cmp after (first ∷ rest) ≡ bytes_cmp (drop 1 after) rest
 first_alike [] rest first l h k = let no : ⊥ = omega (arith, l) in absurd no
-first_alike (c ∷ behind) rest first l h k = ap (λ o. ordering_then o (bytes_cmp behind rest)) (nat_same c first k h)
+first_alike (c ∷ after) rest first l h k = ap (λ o. ordering_then o (bytes_cmp after rest)) (nat_same c first k h)
 
-pub behind_prefix : (title rest : Bytes) (first : ℕ) → begins template_prefix title ≡ true → bytes_cmp (drop 9 title) (first ∷ rest) ≡ bytes_cmp title (template_prefix ++ (first ∷ rest))
-behind_prefix title rest first e =
-    let front : template_prefix ≡ take 9 title = same_text template_prefix (take 9 title) (sym e) in
-    let whole : title ≡ template_prefix ++ drop 9 title = sym (take-append-drop 9 title) ∙ ap (λ x. x ++ drop 9 title) (sym front) in
+pub after_prefix : (title rest : Bytes) (first : ℕ) → begins template_prefix title ≡ true → bytes_cmp (drop 9 title) (first ∷ rest) ≡ bytes_cmp title (template_prefix ++ (first ∷ rest))
+after_prefix title rest first e =
+    let prefix : template_prefix ≡ take 9 title = same_text template_prefix (take 9 title) (sym e) in
+    let whole : title ≡ template_prefix ++ drop 9 title = sym (take-append-drop 9 title) ∙ ap (λ x. x ++ drop 9 title) (sym prefix) in
     sym (ap (λ t. bytes_cmp t (template_prefix ++ (first ∷ rest))) whole)
+
+-- a title without the prefix differs from it before its end, or ends there
+then_alike : (a b : ℕ) (x y : Ordering) → (nat_eq a b ≡ true → x ≡ y) → ordering_then (nat_cmp b a) x ≡ ordering_then (nat_cmp b a) y
+then_alike a b x y h = by (nat_lt b a) (nat_eq b a) refl refl
+  where
+    by : (p q : Bool) → nat_lt b a ≡ p → nat_eq b a ≡ q → ordering_then (nat_cmp b a) x ≡ ordering_then (nat_cmp b a) y
+    by true q e f = rw e refl
+    by false true e f = rw (e, f) (h (let z : nat_eq a b ≡ true = grind (arith, nat_tests) in z))
+    by false false e f = rw (e, f) refl
+
+apart_from : (prefix title more : Bytes) → begins prefix title ≡ false → bytes_cmp title prefix ≡ bytes_cmp title (prefix ++ more)
+apart_from [] title more h = let no : ⊥ = cc in absurd no
+apart_from (a ∷ prefix) [] more h = refl
+apart_from (a ∷ prefix) (b ∷ title) more h =
+    then_alike a b (bytes_cmp title prefix) (bytes_cmp title (prefix ++ more)) (λ e. apart_from prefix title more (let z : begins prefix title ≡ false = sym (rw e refl) ∙ h in z))
+
+pub before_prefix : (title rest : Bytes) (first : ℕ) → begins template_prefix title ≡ false → bytes_cmp title template_prefix ≡ bytes_cmp title (template_prefix ++ (first ∷ rest))
+before_prefix title rest first e = apart_from template_prefix title (first ∷ rest) e
 
 -- the titles below a place are below what lies above it, and the other way round
 abbrev pub AllBelow : Pairs → Title → ℕ → Type 0

@@ -4,17 +4,19 @@ use Rattle.std.specs.Prelude.{Option, codes, option_map, option_and_then, if◌t
 use Rattle.std.proofs.lemmas.Bool.Decides.{nat_tests}
 use Rattle.std.proofs.Math.Seq.{drop-cons}
 use Rattle.wiki_model.specs.Bytes.{Bytes}
+use Rattle.wiki_model.specs.Limits.{included_max}
 use Rattle.wiki_model.specs.Titles.{Title, Text}
 use Rattle.wiki_model.specs.Html.{Templates, two, enclosed, bracketed, link, target_and_label, template_named, include, or_else, mark_at}
 use Rattle.wiki_model.specs.Html as html
-use Rattle.page_markup.specs.Marks.{link_target}
-use Rattle.page_markup.specs.Within.{between, cut_within}
+use Rattle.page_markup.specs.Mark.{link_target}
+use Rattle.page_markup.specs.ClosingPlaces.{between, cut_within}
 use Rattle.page_markup.proofs.Singles.{differs}
 use Rattle.page_render.specs.Use.{IsUse, marked, mark_used, IsIncluded, first_quotes}
+use Rattle.page_render.specs.AsModel.{Pairs, template_text}
 use Rattle.page_render.specs.Templates.{text_named}
-use Rattle.page_render.specs.declared.choice.Use.{Use}
-use Rattle.page_render.specs.declared.choice.Use.TheVariants.{Letter, Quotes, Link, Include}
-use Rattle.page_render.specs.declared.choice.Emphasis.TheVariants.{BoldItalic, Bold, Italic}
+use Rattle.page_render.specs.declared.choose_mark.Use.{Use}
+use Rattle.page_render.specs.declared.choose_mark.Use.TheVariants.{Byte, Quotes, Link, Include}
+use Rattle.page_render.specs.declared.choose_mark.Emphasis.TheVariants.{BoldItalic, Bold, Italic}
 
 -- quotes, one kind after another
 pub five_used : (at to close : ℕ) (text : Bytes) → cut_within 5 at to text (Some close) ≡ enclosed (codes "'''''") (between at to text)
@@ -43,7 +45,7 @@ two_used at to close text a b e = last_of_three at to text (cut_within 2 at to t
 
 pub none_used : (at to : ℕ) (text : Bytes) → cut_within 5 at to text None ≡ enclosed (codes "'''''") (between at to text)
     → cut_within 3 at to text None ≡ enclosed (codes "'''") (between at to text) → cut_within 2 at to text None ≡ enclosed (codes "''") (between at to text)
-    → marked at to text Letter ≡ first_quotes (between at to text)
+    → marked at to text Byte ≡ first_quotes (between at to text)
 none_used at to text a b e = last_of_three at to text None a b e
 
 -- links
@@ -57,42 +59,42 @@ link_used at to close text title e t = ap (linked (between (at + 2) close text, 
 
 pub link_unused : (at to close : ℕ) (text : Bytes) → cut_within 2 at to text (Some close) ≡ bracketed (codes "[[") (codes "]]") (between at to text)
     → (let none : Option Title = None in none) ≡ link_target (between (at + 2) close text)
-    → marked at to text Letter ≡ option_and_then link (bracketed (codes "[[") (codes "]]") (between at to text))
+    → marked at to text Byte ≡ option_and_then link (bracketed (codes "[[") (codes "]]") (between at to text))
 link_unused at to close text e t = ap (linked (between (at + 2) close text, between (close + 2) to text)) t ∙ ap (option_and_then link) e
 
 -- templates
 abbrev pub fitting : ℕ → Bytes → Option Text → Option html.Mark
-fitting n rest found = option_and_then (λ text. if nat_le (n + length text) 262144 then Some (html.Include text rest) else None) found
+fitting n rest found = option_and_then (λ text. if nat_le (n + length text) included_max then Some (html.Include text rest) else None) found
 
-fits_by : (n : ℕ) (rest : Bytes) (t : Text) (b : Bool) → nat_le (n + length t) 262144 ≡ b → n + length t ≤ 262144 → Some (html.Include t rest) ≡ fitting n rest (Some t)
+fits_by : (n : ℕ) (rest : Bytes) (t : Text) (b : Bool) → nat_le (n + length t) included_max ≡ b → n + length t ≤ included_max → Some (html.Include t rest) ≡ fitting n rest (Some t)
 fits_by n rest t true e h = rw e refl
 fits_by n rest t false e h = let no : ⊥ = grind (arith, nat_tests) in absurd no
 
-past_by : (n : ℕ) (rest : Bytes) (t : Text) (b : Bool) → nat_le (n + length t) 262144 ≡ b → 262144 < n + length t → None ≡ fitting n rest (Some t)
+past_by : (n : ℕ) (rest : Bytes) (t : Text) (b : Bool) → nat_le (n + length t) included_max ≡ b → included_max < n + length t → None ≡ fitting n rest (Some t)
 past_by n rest t false e h = rw e refl
 past_by n rest t true e h = let no : ⊥ = grind (arith, nat_tests) in absurd no
 
 if_fits : (at to n close : ℕ) (text : Bytes) (t : Text) (u : Use) → IsIncluded t n close u → marked at to text u ≡ fitting n (between (close + 2) to text) (Some t)
-if_fits at to n close text t Letter h = past_by n (between (close + 2) to text) t (nat_le (n + length t) 262144) refl h
+if_fits at to n close text t Byte h = past_by n (between (close + 2) to text) t (nat_le (n + length t) included_max) refl h
 if_fits at to n close text t (Quotes emphasis place) h = absurd h
 if_fits at to n close text t (Link title place) h = absurd h
 if_fits at to n close text t (Include template place) h =
     ap (λ x. Some (html.Include x (between (place + 2) to text))) h.0 ∙ ap (λ k. Some (html.Include t (between (k + 2) to text))) h.1
-    ∙ fits_by n (between (close + 2) to text) t (nat_le (n + length t) 262144) refl h.2
+    ∙ fits_by n (between (close + 2) to text) t (nat_le (n + length t) included_max) refl h.2
 
-pub template_used : (templates : Templates) (at to n close : ℕ) (text : Bytes) (t : Text) (u : Use) → cut_within 2 at to text (Some close) ≡ bracketed (codes "{{") (codes "}}") (between at to text)
-    → text_named templates (between (at + 2) close text) ≡ Some t → IsIncluded t n close u
-    → marked at to text u ≡ option_and_then (include templates n) (bracketed (codes "{{") (codes "}}") (between at to text))
-template_used templates at to n close text t u e f h =
-    if_fits at to n close text t u h ∙ ap (fitting n (between (close + 2) to text)) (sym f) ∙ ap (option_and_then (include templates n)) e
+pub template_used : (pairs : Pairs) (at to n close : ℕ) (text : Bytes) (t : Text) (u : Use) → cut_within 2 at to text (Some close) ≡ bracketed (codes "{{") (codes "}}") (between at to text)
+    → text_named pairs (between (at + 2) close text) ≡ Some t → IsIncluded t n close u
+    → marked at to text u ≡ option_and_then (include (template_text pairs) n) (bracketed (codes "{{") (codes "}}") (between at to text))
+template_used pairs at to n close text t u e f h =
+    if_fits at to n close text t u h ∙ ap (fitting n (between (close + 2) to text)) (sym f) ∙ ap (option_and_then (include (template_text pairs) n)) e
 
-pub template_unused : (templates : Templates) (at to n close : ℕ) (text : Bytes) → cut_within 2 at to text (Some close) ≡ bracketed (codes "{{") (codes "}}") (between at to text)
-    → text_named templates (between (at + 2) close text) ≡ None
-    → marked at to text Letter ≡ option_and_then (include templates n) (bracketed (codes "{{") (codes "}}") (between at to text))
-template_unused templates at to n close text e f = ap (fitting n (between (close + 2) to text)) (sym f) ∙ ap (option_and_then (include templates n)) e
+pub template_unused : (pairs : Pairs) (at to n close : ℕ) (text : Bytes) → cut_within 2 at to text (Some close) ≡ bracketed (codes "{{") (codes "}}") (between at to text)
+    → text_named pairs (between (at + 2) close text) ≡ None
+    → marked at to text Byte ≡ option_and_then (include (template_text pairs) n) (bracketed (codes "{{") (codes "}}") (between at to text))
+template_unused pairs at to n close text e f = ap (fitting n (between (close + 2) to text)) (sym f) ∙ ap (option_and_then (include (template_text pairs) n)) e
 
 pub included_use : (at to n close : ℕ) (t : Text) (u : Use) → IsIncluded t n close u → at + 2 ≤ close → close + 2 ≤ to → IsUse at to n true u
-included_use at to n close t Letter h a b = tt
+included_use at to n close t Byte h a b = tt
 included_use at to n close t (Quotes emphasis place) h a b = absurd h
 included_use at to n close t (Link title place) h a b = absurd h
 included_use at to n close t (Include template place) h a b = (omega (arith, a, h.1), omega (arith, b, h.1), refl, omega (arith, h.2, ap length h.0))
@@ -109,74 +111,74 @@ templates_none c rest h = rw (differs 123 c (λ e. h (sym e))) refl
 
 -- the rules in their order, the three kinds of quotes as one
 abbrev pub in_order : (quotes links included : Option html.Mark) → html.Mark → html.Mark
-in_order quotes links included letter = unwrap_or (or_else quotes (or_else links included)) letter
+in_order quotes links included byte = unwrap_or (or_else quotes (or_else links included)) byte
 
 abbrev pub if_read : Bool → Option html.Mark → Option html.Mark
 if_read b o = if b then o else None
 
-three_first : (a b c d e : Option html.Mark) (letter : html.Mark) → unwrap_or (or_else a (or_else b (or_else c (or_else d e)))) letter ≡ in_order (or_else a (or_else b c)) d e letter
-three_first None None None d e letter = refl
-three_first None None (Some z) d e letter = refl
-three_first None (Some y) c d e letter = refl
-three_first (Some x) b c d e letter = refl
+three_first : (a b c d e : Option html.Mark) (byte : html.Mark) → unwrap_or (or_else a (or_else b (or_else c (or_else d e)))) byte ≡ in_order (or_else a (or_else b c)) d e byte
+three_first None None None d e byte = refl
+three_first None None (Some z) d e byte = refl
+three_first None (Some y) c d e byte = refl
+three_first (Some x) b c d e byte = refl
 
 mark_is : (templates : Templates) (b : Bool) (n c : ℕ) (rest : Bytes)
     → mark_at templates b n c rest
     ≡ in_order (first_quotes (c ∷ rest)) (option_and_then link (bracketed (codes "[[") (codes "]]") (c ∷ rest)))
-    (if_read b (option_and_then (include templates n) (bracketed (codes "{{") (codes "}}") (c ∷ rest)))) (html.Letter c rest)
+    (if_read b (option_and_then (include templates n) (bracketed (codes "{{") (codes "}}") (c ∷ rest)))) (html.Byte c rest)
 mark_is templates b n c rest =
     three_first (two html.BoldItalic (enclosed (codes "'''''") (c ∷ rest))) (two html.Bold (enclosed (codes "'''") (c ∷ rest))) (two html.Italic (enclosed (codes "''") (c ∷ rest)))
     (option_and_then link (bracketed (codes "[[") (codes "]]") (c ∷ rest)))
-    (if_read b (option_and_then (include templates n) (bracketed (codes "{{") (codes "}}") (c ∷ rest)))) (html.Letter c rest)
+    (if_read b (option_and_then (include templates n) (bracketed (codes "{{") (codes "}}") (c ∷ rest)))) (html.Byte c rest)
 
 unread : (b : Bool) → if_read b None ≡ None
 unread true = refl
 unread false = refl
 
-alone : (a : Option html.Mark) (letter : html.Mark) → in_order a None None letter ≡ unwrap_or a letter
-alone None letter = refl
-alone (Some m) letter = refl
+alone : (a : Option html.Mark) (byte : html.Mark) → in_order a None None byte ≡ unwrap_or a byte
+alone None byte = refl
+alone (Some m) byte = refl
 
 no_template : (templates : Templates) (b : Bool) (n c : ℕ) (rest : Bytes) → (c ≡ 123 → ⊥)
     → if_read b (option_and_then (include templates n) (bracketed (codes "{{") (codes "}}") (c ∷ rest))) ≡ None
 no_template templates b n c rest h = ap (λ o. if_read b (option_and_then (include templates n) o)) (templates_none c rest h) ∙ unread b
 
-pub quotes_mark : (templates : Templates) (b : Bool) (n c : ℕ) (rest : Bytes) → c ≡ 39 → mark_at templates b n c rest ≡ unwrap_or (first_quotes (c ∷ rest)) (html.Letter c rest)
+pub quotes_mark : (templates : Templates) (b : Bool) (n c : ℕ) (rest : Bytes) → c ≡ 39 → mark_at templates b n c rest ≡ unwrap_or (first_quotes (c ∷ rest)) (html.Byte c rest)
 quotes_mark templates b n c rest e =
     let q = first_quotes (c ∷ rest) in
     let t = if_read b (option_and_then (include templates n) (bracketed (codes "{{") (codes "}}") (c ∷ rest))) in
     mark_is templates b n c rest
-    ∙ ap (λ o. in_order q (option_and_then link o) t (html.Letter c rest)) (links_none c rest (λ x. let no : ⊥ = omega (arith, e, x) in no))
-    ∙ ap (λ o. in_order q None o (html.Letter c rest)) (no_template templates b n c rest (λ x. let no : ⊥ = omega (arith, e, x) in no))
-    ∙ alone q (html.Letter c rest)
+    ∙ ap (λ o. in_order q (option_and_then link o) t (html.Byte c rest)) (links_none c rest (λ x. let no : ⊥ = omega (arith, e, x) in no))
+    ∙ ap (λ o. in_order q None o (html.Byte c rest)) (no_template templates b n c rest (λ x. let no : ⊥ = omega (arith, e, x) in no))
+    ∙ alone q (html.Byte c rest)
 
-beside : (a : Option html.Mark) (letter : html.Mark) → in_order None a None letter ≡ unwrap_or a letter
-beside None letter = refl
-beside (Some m) letter = refl
+beside : (a : Option html.Mark) (byte : html.Mark) → in_order None a None byte ≡ unwrap_or a byte
+beside None byte = refl
+beside (Some m) byte = refl
 
 pub link_mark : (templates : Templates) (b : Bool) (n c : ℕ) (rest : Bytes) → c ≡ 91
-    → mark_at templates b n c rest ≡ unwrap_or (option_and_then link (bracketed (codes "[[") (codes "]]") (c ∷ rest))) (html.Letter c rest)
+    → mark_at templates b n c rest ≡ unwrap_or (option_and_then link (bracketed (codes "[[") (codes "]]") (c ∷ rest))) (html.Byte c rest)
 link_mark templates b n c rest e =
     let l = option_and_then link (bracketed (codes "[[") (codes "]]") (c ∷ rest)) in
     mark_is templates b n c rest
-    ∙ ap (λ q. in_order q l (if_read b (option_and_then (include templates n) (bracketed (codes "{{") (codes "}}") (c ∷ rest)))) (html.Letter c rest)) (quotes_none c rest (λ x. let no : ⊥ = omega (arith, e, x) in no))
-    ∙ ap (λ o. in_order None l o (html.Letter c rest)) (no_template templates b n c rest (λ x. let no : ⊥ = omega (arith, e, x) in no))
-    ∙ beside l (html.Letter c rest)
+    ∙ ap (λ q. in_order q l (if_read b (option_and_then (include templates n) (bracketed (codes "{{") (codes "}}") (c ∷ rest)))) (html.Byte c rest)) (quotes_none c rest (λ x. let no : ⊥ = omega (arith, e, x) in no))
+    ∙ ap (λ o. in_order None l o (html.Byte c rest)) (no_template templates b n c rest (λ x. let no : ⊥ = omega (arith, e, x) in no))
+    ∙ beside l (html.Byte c rest)
 
 pub template_mark : (templates : Templates) (n c : ℕ) (rest : Bytes) → c ≡ 123
-    → mark_at templates true n c rest ≡ unwrap_or (option_and_then (include templates n) (bracketed (codes "{{") (codes "}}") (c ∷ rest))) (html.Letter c rest)
+    → mark_at templates true n c rest ≡ unwrap_or (option_and_then (include templates n) (bracketed (codes "{{") (codes "}}") (c ∷ rest))) (html.Byte c rest)
 template_mark templates n c rest e =
     let t = option_and_then (include templates n) (bracketed (codes "{{") (codes "}}") (c ∷ rest)) in
     mark_is templates true n c rest
-    ∙ ap (λ q. in_order q (option_and_then link (bracketed (codes "[[") (codes "]]") (c ∷ rest))) t (html.Letter c rest)) (quotes_none c rest (λ x. let no : ⊥ = omega (arith, e, x) in no))
-    ∙ ap (λ o. in_order None (option_and_then link o) t (html.Letter c rest)) (links_none c rest (λ x. let no : ⊥ = omega (arith, e, x) in no))
+    ∙ ap (λ q. in_order q (option_and_then link (bracketed (codes "[[") (codes "]]") (c ∷ rest))) t (html.Byte c rest)) (quotes_none c rest (λ x. let no : ⊥ = omega (arith, e, x) in no))
+    ∙ ap (λ o. in_order None (option_and_then link o) t (html.Byte c rest)) (links_none c rest (λ x. let no : ⊥ = omega (arith, e, x) in no))
 
-pub letter_mark : (templates : Templates) (b : Bool) (n c : ℕ) (rest : Bytes) → (c ≡ 39 → ⊥) → (c ≡ 91 → ⊥) → (c ≡ 123 → ⊥) → mark_at templates b n c rest ≡ html.Letter c rest
-letter_mark templates b n c rest x y z =
+pub byte_mark : (templates : Templates) (b : Bool) (n c : ℕ) (rest : Bytes) → (c ≡ 39 → ⊥) → (c ≡ 91 → ⊥) → (c ≡ 123 → ⊥) → mark_at templates b n c rest ≡ html.Byte c rest
+byte_mark templates b n c rest x y z =
     mark_is templates b n c rest
-    ∙ ap (λ q. in_order q (option_and_then link (bracketed (codes "[[") (codes "]]") (c ∷ rest))) (if_read b (option_and_then (include templates n) (bracketed (codes "{{") (codes "}}") (c ∷ rest)))) (html.Letter c rest)) (quotes_none c rest x)
-    ∙ ap (λ o. in_order None (option_and_then link o) (if_read b (option_and_then (include templates n) (bracketed (codes "{{") (codes "}}") (c ∷ rest)))) (html.Letter c rest)) (links_none c rest y)
-    ∙ ap (λ o. in_order None None o (html.Letter c rest)) (no_template templates b n c rest z)
+    ∙ ap (λ q. in_order q (option_and_then link (bracketed (codes "[[") (codes "]]") (c ∷ rest))) (if_read b (option_and_then (include templates n) (bracketed (codes "{{") (codes "}}") (c ∷ rest)))) (html.Byte c rest)) (quotes_none c rest x)
+    ∙ ap (λ o. in_order None (option_and_then link o) (if_read b (option_and_then (include templates n) (bracketed (codes "{{") (codes "}}") (c ∷ rest)))) (html.Byte c rest)) (links_none c rest y)
+    ∙ ap (λ o. in_order None None o (html.Byte c rest)) (no_template templates b n c rest z)
 
 -- a text from a place on
 pub between_on : (at to : ℕ) (text : Bytes) → at < to → to ≤ length text → between at to text ≡ get_or text at 0 ∷ between (at + 1) to text
@@ -188,7 +190,7 @@ between_on at to text h k =
 -- the mark of the place, from what was found there
 pub mark_found : (at to : ℕ) (text : Bytes) (u : Use) (found : Bytes → Option html.Mark) (mark : html.Mark) → at < to → to ≤ length text
     → marked at to text u ≡ found (between at to text)
-    → mark ≡ unwrap_or (found (get_or text at 0 ∷ between (at + 1) to text)) (html.Letter (get_or text at 0) (between (at + 1) to text))
+    → mark ≡ unwrap_or (found (get_or text at 0 ∷ between (at + 1) to text)) (html.Byte (get_or text at 0) (between (at + 1) to text))
     → mark_used at to text u ≡ mark
 mark_found at to text u found mark h k e m =
-    ap (λ o. unwrap_or o (html.Letter (get_or text at 0) (between (at + 1) to text))) (e ∙ ap found (between_on at to text h k)) ∙ sym m
+    ap (λ o. unwrap_or o (html.Byte (get_or text at 0) (between (at + 1) to text))) (e ∙ ap found (between_on at to text h k)) ∙ sym m

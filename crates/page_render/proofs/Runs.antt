@@ -9,11 +9,13 @@ use Rattle.std.proofs.Math.Seq.{take-add}
 use Rattle.wiki_model.specs.Bytes.{Bytes}
 use Rattle.wiki_model.specs.Html.{Templates, Reading, inline, escaped_byte, mark_at, read_mark}
 use Rattle.wiki_model.specs.Html as html
-use Rattle.page_markup.specs.Within.{between}
+use Rattle.page_markup.specs.ClosingPlaces.{between}
 use Rattle.page_markup.proofs.Places.{drop_drop}
 use Rattle.page_markup.proofs.Trees.{take_on}
-use Rattle.page_render.specs.Use.{GoesOn, is_bare}
-use Rattle.page_render.proofs.Picks.{letter_mark}
+use Rattle.page_render.specs.AsModel.{template_text}
+use Rattle.page_render.specs.Draft.{Draft, put, then_reads, with_text}
+use Rattle.page_render.specs.Use.{is_bare}
+use Rattle.page_render.proofs.Picks.{byte_mark}
 use Rattle.page_render.proofs.Steps.{inline_on, inside}
 
 -- a byte more
@@ -50,12 +52,12 @@ none_of c h = seven (nat_eq c 34) (nat_eq c 38) (nat_eq c 39) (nat_eq c 60) (nat
 is_not : (c k : ℕ) → nat_eq c k ≡ false → c ≡ k → ⊥
 is_not c k e h = grind (arith, nat_tests)
 
-bare_letter : (c : ℕ) → is_bare c ≡ true → escaped_byte c ≡ c ∷ []
-bare_letter c h = let n = none_of c h in rw (n.1, n.3, n.4, n.0) refl
+bare_byte : (c : ℕ) → is_bare c ≡ true → escaped_byte c ≡ c ∷ []
+bare_byte c h = let n = none_of c h in rw (n.1, n.3, n.4, n.0) refl
 
-bare_mark : (templates : Templates) (b : Bool) (n c : ℕ) (rest : Bytes) → is_bare c ≡ true → mark_at templates b n c rest ≡ html.Letter c rest
+bare_mark : (templates : Templates) (b : Bool) (n c : ℕ) (rest : Bytes) → is_bare c ≡ true → mark_at templates b n c rest ≡ html.Byte c rest
 bare_mark templates b n c rest h =
-    let o = none_of c h in letter_mark templates b n c rest (is_not c 39 o.2) (is_not c 91 o.5) (is_not c 123 o.6)
+    let o = none_of c h in byte_mark templates b n c rest (is_not c 39 o.2) (is_not c 91 o.5) (is_not c 123 o.6)
 
 bare_first : (a b : Bool) → a && b ≡ true → (a ≡ true) × (b ≡ true)
 bare_first true b e = (refl, e)
@@ -69,11 +71,11 @@ reads_on : (templates : Templates) (depth n : ℕ) (run rest : Bytes) → list_a
 reads_on templates depth n [] rest h = (refl, refl)
 reads_on templates depth n (c ∷ run) rest h =
     let parts = bare_first (is_bare c) (list_all is_bare run) h in
-    let letter : inline templates depth n (c ∷ (run ++ rest)) ≡ read_mark (inline templates depth) (inside templates depth) n (html.Letter c (run ++ rest)) =
+    let byte : inline templates depth n (c ∷ (run ++ rest)) ≡ read_mark (inline templates depth) (inside templates depth) n (html.Byte c (run ++ rest)) =
     inline_on templates depth n c (run ++ rest) ∙ ap (read_mark (inline templates depth) (inside templates depth) n) (bare_mark templates (nat_lt 0 depth) n c (run ++ rest) parts.0) in
     let left = reads_on templates depth n run rest parts.1 in (
-      ap (λ r. r.html) letter ∙ ap (λ x. (x ++ []) ++ (inline templates depth n (run ++ rest)).html) (bare_letter c parts.0) ∙ ap (λ x. c ∷ x) left.0,
-      ap (λ r. r.included) letter ∙ left.1,
+      ap (λ r. r.html) byte ∙ ap (λ x. (x ++ []) ++ (inline templates depth n (run ++ rest)).html) (bare_byte c parts.0) ∙ ap (λ x. c ∷ x) left.0,
+      ap (λ r. r.included) byte ∙ left.1,
     )
 
 halves : (text : Bytes) (at end to : ℕ) → at ≤ end → end ≤ to → between at to text ≡ between at end text ++ between end to text
@@ -82,17 +84,23 @@ halves text at end to a b =
     ∙ take-add (end - at) (to - end) (drop at text)
     ∙ ap (λ s. between at end text ++ take (to - end) s) (drop_drop (end - at) at text ∙ ap (λ k. drop k text) (let z : at + (end - at) ≡ end = omega (arith, a) in z))
 
+-- a page with a run and then the rest is the page with both
+put_run : (d : Draft) (run : Bytes) (rest whole : Reading) → whole.html ≡ run ++ rest.html → whole.included ≡ rest.included → then_reads (put d run) rest ≡ then_reads d whole
+put_run d run rest whole h i =
+    ap (λ x. (let z : Draft = record { html = x; included = rest.included; templates = d.templates } in z)) (append_assoc d.html run rest.html ∙ ap (λ x. d.html ++ x) (sym h))
+    ∙ ap (λ n. (let z : Draft = record { html = d.html ++ whole.html; included = n; templates = d.templates } in z)) (sym i)
+
 -- the run written
-pub run_goes : (templates : Templates) (depth n at end to : ℕ) (text old new : Bytes) → at ≤ end → end ≤ to → list_all is_bare (between at end text) ≡ true → new ≡ old ++ between at end text
-    → GoesOn old new (inline templates depth n (between at to text)) (inline templates depth n (between end to text))
-run_goes templates depth n at end to text old new a b h e =
+pub run_goes : (d e : Draft) (depth at end to : ℕ) (text : Bytes) → at ≤ end → end ≤ to → list_all is_bare (between at end text) ≡ true → e ≡ put d (between at end text)
+    → with_text e depth (between end to text) ≡ with_text d depth (between at to text)
+run_goes d e depth at end to text a b h w =
+    let T = template_text d.templates in
     let run = between at end text in
     let rest = between end to text in
-    let left = reads_on templates depth n run rest h in
-    let whole : inline templates depth n (between at to text) ≡ inline templates depth n (run ++ rest) = ap (inline templates depth n) (halves text at end to a b) in (
-      ap (λ x. x ++ (inline templates depth n rest).html) e ∙ append_assoc old run (inline templates depth n rest).html ∙ ap (λ x. old ++ x) (sym left.0 ∙ ap (λ r. r.html) (sym whole)),
-      sym left.1 ∙ ap (λ r. r.included) (sym whole),
-    )
+    let left = reads_on T depth d.included run rest h in
+    let whole : inline T depth d.included (between at to text) ≡ inline T depth d.included (run ++ rest) = ap (inline T depth d.included) (halves text at end to a b) in
+    ap (λ x. with_text x depth rest) w
+    ∙ put_run d run (inline T depth d.included rest) (inline T depth d.included (between at to text)) (ap (λ r. r.html) whole ∙ left.0) (ap (λ r. r.included) whole ∙ left.1)
 
 pub bare_none : (text : Bytes) (at : ℕ) → list_all is_bare (between at at text) ≡ true
 bare_none text at = ap (λ k. list_all is_bare (take k (drop at text))) (let z : at - at ≡ 0 = omega arith in z)

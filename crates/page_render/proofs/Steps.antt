@@ -4,12 +4,14 @@ use Rattle.std.proofs.lemmas.Bool.Decides.{nat_tests}
 use Rattle.wiki_model.specs.Bytes.{Bytes, replaced, line_feed, space}
 use Rattle.wiki_model.specs.Html.{Templates, Reader, Reading, mark_at, read_mark, then_rest, inline, escaped, escaped_byte, element}
 use Rattle.wiki_model.specs.Html as html
-use Rattle.page_markup.specs.Within.{between}
-use Rattle.page_render.specs.declared.choice.Emphasis.{Emphasis}
-use Rattle.page_render.specs.declared.choice.Emphasis.TheVariants.{BoldItalic, Bold, Italic}
-use Rattle.page_render.specs.declared.choice.Use.{Use}
-use Rattle.page_render.specs.declared.choice.Use.TheVariants.{Letter, Quotes, Link, Include}
-use Rattle.page_render.specs.Use.{IsUse, mark_used, behind, shown, emphasized, width_of, opening_of, closing_of, GoesOn}
+use Rattle.page_markup.specs.ClosingPlaces.{between}
+use Rattle.page_render.specs.declared.choose_mark.Emphasis.{Emphasis}
+use Rattle.page_render.specs.declared.choose_mark.Emphasis.TheVariants.{BoldItalic, Bold, Italic}
+use Rattle.page_render.specs.declared.choose_mark.Use.{Use}
+use Rattle.page_render.specs.declared.choose_mark.Use.TheVariants.{Byte, Quotes, Link, Include}
+use Rattle.page_render.specs.AsModel.{template_text}
+use Rattle.page_render.specs.Draft.{Draft, then_reads, with_text}
+use Rattle.page_render.specs.Use.{IsUse, mark_used, place_after, shown, with_shown, emphasized, width_of, opening_of, closing_of}
 use Rattle.page_render.proofs.Picks.{between_on}
 use Rattle.page_render.proofs.Fuel.{reading_on}
 
@@ -89,8 +91,8 @@ inside_part templates (suc d) n k template h i =
 -- the mark that is used at a place is read as what is shown for it, and then the rest
 use_read : (templates : Templates) (depth n at to : ℕ) (text : Bytes) (used : Use) → IsUse at to n (nat_lt 0 depth) used
     → read_mark (inline templates depth) (inside templates depth) n (mark_used at to text used)
-    ≡ then_read (inline templates depth) (shown templates depth n at text used) (between (behind at used) to text)
-use_read templates depth n at to text Letter b = no_tags (inline templates depth) (shown templates depth n at text Letter) (between (at + 1) to text)
+    ≡ then_read (inline templates depth) (shown templates depth n at text used) (between (place_after at used) to text)
+use_read templates depth n at to text Byte b = no_tags (inline templates depth) (shown templates depth n at text Byte) (between (at + 1) to text)
 use_read templates depth n at to text (Quotes emphasis close) b =
     quotes_read (inline templates depth) (inside templates depth) n emphasis (between (at + width_of emphasis) close text) (between (close + width_of emphasis) to text)
 use_read templates depth n at to text (Link title close) b = refl
@@ -100,24 +102,35 @@ use_read templates depth n at to text (Include template close) b =
     no_tags (inline templates depth) (inside templates depth size (replaced line_feed space template.now)) rest
     ∙ ap (λ r. then_read (inline templates depth) r rest) (sym (inside_part templates depth n size template.now (deep depth b.2) refl))
 
--- what is used at a place was written, and what stands behind it is left
-pub use_goes : (templates : Templates) (depth n at to : ℕ) (text old new : Bytes) (used : Use) (after : ℕ) → at < to → to ≤ length text
-    → IsUse at to n (nat_lt 0 depth) used → mark_used at to text used ≡ mark_there templates depth n at to text
-    → new ≡ old ++ (shown templates depth n at text used).html → after ≡ (shown templates depth n at text used).included
-    → GoesOn old new (inline templates depth n (between at to text)) (inline templates depth after (between (behind at used) to text))
-use_goes templates depth n at to text old new used after h k b e w a =
-    let first = shown templates depth n at text used in
-    let rest = between (behind at used) to text in
-    let tail = inline templates depth first.included rest in
-    let whole = step_is templates depth n at to text (mark_used at to text used) h k e ∙ use_read templates depth n at to text used b in
-    let left = ap (λ m. inline templates depth m rest) a in (
-      ap (λ x. x ++ (inline templates depth after rest).html) w ∙ ap (λ t. (old ++ first.html) ++ t.html) left ∙ append_assoc old first.html tail.html ∙ ap (λ r. old ++ r.html) (sym whole),
-      ap (λ t. t.included) left ∙ ap (λ r. r.included) (sym whole),
-    )
+-- a page with a first reading and then the rest is the page with both
+put_on : (d : Draft) (first tail whole : Reading) → whole ≡ (let r : Reading = record { html = first.html ++ tail.html; included = tail.included } in r)
+    → then_reads (then_reads d first) tail ≡ then_reads d whole
+put_on d first tail whole e =
+    ap (λ x. (let z : Draft = record { html = x; included = tail.included; templates = d.templates } in z)) (append_assoc d.html first.html tail.html)
+    ∙ ap (then_reads d) (sym e)
+
+-- what is used at a place was written, and what stands after it is left
+pub use_goes : (d e : Draft) (depth at to : ℕ) (text : Bytes) (used : Use) → at < to → to ≤ length text
+    → IsUse at to d.included (nat_lt 0 depth) used → mark_used at to text used ≡ mark_there (template_text d.templates) depth d.included at to text
+    → e ≡ with_shown d depth at text used
+    → with_text e depth (between (place_after at used) to text) ≡ with_text d depth (between at to text)
+use_goes d e depth at to text used h k b m w =
+    let T = template_text d.templates in
+    let first = shown T depth d.included at text used in
+    let rest = between (place_after at used) to text in
+    let tail = inline T depth first.included rest in
+    let whole = step_is T depth d.included at to text (mark_used at to text used) h k m ∙ use_read T depth d.included at to text used b in
+    ap (λ x. with_text x depth rest) w ∙ put_on d first tail (inline T depth d.included (between at to text)) whole
+
+-- nothing is left
+pub ended : (d : Draft) (depth at to : ℕ) (text : Bytes) → to ≤ at → with_text d depth (between at to text) ≡ d
+ended d depth at to text h =
+    ap (then_reads d) (at_the_end (template_text d.templates) depth d.included at to text h)
+    ∙ ap (λ x. (let z : Draft = record { html = x; included = d.included; templates = d.templates } in z)) (append-nil d.html)
 
 -- where what is used at a place ends
-pub behind_place : (at to n : ℕ) (reads : Bool) (used : Use) → at < to → IsUse at to n reads used → (at < behind at used) × (behind at used ≤ to)
-behind_place at to n reads Letter h b = (omega arith, omega (arith, h))
-behind_place at to n reads (Quotes emphasis close) h b = let some = some_width emphasis in (omega (arith, b.0, some), omega (arith, b.1))
-behind_place at to n reads (Link title close) h b = (omega (arith, b.0), omega (arith, b.1))
-behind_place at to n reads (Include template close) h b = (omega (arith, b.0), omega (arith, b.1))
+pub place_past : (at to n : ℕ) (reads : Bool) (used : Use) → at < to → IsUse at to n reads used → (at < place_after at used) × (place_after at used ≤ to)
+place_past at to n reads Byte h b = (omega arith, omega (arith, h))
+place_past at to n reads (Quotes emphasis close) h b = let some = some_width emphasis in (omega (arith, b.0, some), omega (arith, b.1))
+place_past at to n reads (Link title close) h b = (omega (arith, b.0), omega (arith, b.1))
+place_past at to n reads (Include template close) h b = (omega (arith, b.0), omega (arith, b.1))

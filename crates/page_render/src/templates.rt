@@ -1,195 +1,115 @@
-// The template pages, found by what a text names between braces.
-ghost use Rattle.std.specs.Prelude.{◌≡◌, ◌≤◌, ◌<◌, ◌-◌, ◌∷◌, ℕ, List, length, get_or, option_copied, IfOk, IsTrue, Some, true};
-ghost use Rattle.std.specs.BTreeMap.{get, Updates};
+// The template pages in title order, and the page that a text between braces names.
+ghost use Rattle.std.specs.Prelude.{◌≡◌, ◌≤◌, ◌<◌, ◌-◌, ◌∷◌, ℕ, List, length, get_or, option_copied, IfOk, IsTrue};
 ghost use Rattle.wiki_model.specs.Bytes.{begins};
+ghost use Rattle.wiki_model.specs.Limits.{brackets_max};
 ghost use Rattle.wiki_model.specs.Titles.{template_prefix};
 ghost use Rattle.wiki_titles.specs.Order.{bytes_cmp};
-ghost use Rattle.page_render.specs.Templates.{AreInOrder, IsIndexOf, first_place, indexed, text_named, title_wanted};
-ghost use Rattle.page_render.specs.Use.{template_text};
+ghost use Rattle.page_render.specs.AsModel.{template_text};
+ghost use Rattle.page_render.specs.Templates.{IsRising, text_named, title_wanted};
 ghost use Rattle.std.specs.declared.cmp.Ordering.TheVariants.{Less};
 
 use std::alloc::{AllocError, Global};
 use std::cmp::Ordering;
-use std::collections::BTreeMap;
 use std::marker::Model;
 use wiki_titles::{Text, Title};
 
-/// How a page is found by its title.
+/// The template pages, each title below the next, so that a page is found by halving. Contracts see the list.
 #[derive(Drop)]
-enum Index {
-    /// All are titles of templates and rise, so the list is halved.
-    InOrder,
-    /// The place of the first page of each title.
-    ByTitle(BTreeMap<Title, usize>),
+pub struct Templates<'a> {
+    pages: &'a [(Title, Text)],
 }
 
-/// The template pages. Contracts see the list that they were made of.
-#[derive(Drop)]
-pub struct Pages<'a> {
-    index: Index,
-    templates: &'a [(Title, Text)],
+impl<'a> Model for Templates<'a> {
+    ghost use Rattle.page_render.specs.AsModel.{Pairs};
+    ghost use Rattle.page_render.specs.Templates.{IsRising};
+
+    ghost Value = { Pairs };
+
+    ghost view = { λ templates. templates.pages.now };
+
+    ghost invariant = { λ templates. IsRising templates.pages.now };
 }
 
-impl<'a> Model for Pages<'a> {
-    ghost use Rattle.std.specs.Prelude.{ℕ, List};
-    ghost use Rattle.page_render.specs.Templates.{IsIndexOf};
-
-    ghost Value = { List (List ℕ × List ℕ) };
-
-    ghost view = { λ pages. pages.templates.now };
-
-    ghost invariant = { λ pages. IsIndexOf pages.index pages.templates.now };
-}
-
-impl<'a> Pages<'a> {
-    /// The pages are looked over once, and where their titles do not rise an index of them is made.
-    pub fn of(alloc: Global, templates: &'a [(Title, Text)]) -> Result<Pages<'a>, AllocError>
-        ensures { IfOk result (λ pages. pages ≡ templates.now) }
+impl<'a> Templates<'a> {
+    /// These pages, which rise.
+    pub fn new(pages: &'a [(Title, Text)]) -> Templates<'a>
+        requires { IsRising pages.now }
+        ensures { result ≡ pages.now }
     {
-        let index = index_of(alloc, templates)?;
-        Ok(Pages { index, templates })
+        Templates { pages }
     }
 
-    /// The text of the template page that a text of at most 512 bytes names, in time that grows with the logarithm of their number.
+    /// The text of the template page that a text between braces names. The time grows with the logarithm of the number of
+    /// pages; a name of ASCII letters and digits takes no memory.
     pub fn find(&self, alloc: Global, name: &str) -> Result<Option<&'a Text>, AllocError>
-        requires { length name.now ≤ 512 }
-        ensures { IfOk result (λ found. option_copied found ≡ text_named (template_text self.now) name.now) }
+        requires { length name.now ≤ brackets_max }
+        ensures { IfOk result (λ found. option_copied found ≡ text_named self.now name.now) }
     {
-        find_named(alloc, &self.index, self.templates, name)
+        find_named(alloc, self.pages, name)
     }
 }
 
-fn order_of(one: &[u8], other: &[u8]) -> Ordering
-    ensures { result ≡ bytes_cmp one.now other.now }
+/// Whether each title is below the next.
+pub fn are_rising(pages: &[(Title, Text)]) -> bool
+    ensures { IsTrue result → IsRising pages.now }
 {
-    one.cmp(other)
-}
-
-fn is_below(one: &Title, other: &Title) -> bool
-    ensures { IsTrue result → bytes_cmp one.now other.now ≡ Less }
-{
-    match order_of(one.text().as_bytes(), other.text().as_bytes()) {
-        Ordering::Less => true,
-        Ordering::Equal => false,
-        Ordering::Greater => false,
-    }
-}
-
-fn is_template(title: &Title) -> bool
-    ensures { result ≡ begins template_prefix title.now }
-{
-    title.text().as_bytes().starts_with(b"Template:")
-}
-
-/// Whether the title at the place is a template's and is above the one before it.
-fn goes_on(templates: &[(Title, Text)], at: usize) -> bool
-    requires { at < length templates.now }
-    ensures template { IsTrue result → (d : List ℕ × List ℕ) → begins template_prefix (get_or templates.now at d).0 ≡ true }
-    ensures above { IsTrue result → 0 < at → (d : List ℕ × List ℕ) → bytes_cmp (get_or templates.now (at - 1) d).0 (get_or templates.now at d).0 ≡ Less }
-{
-    if !is_template(&templates[at].0) {
-        return false;
-    }
-    at == 0 || is_below(&templates[at - 1].0, &templates[at].0)
-}
-
-/// Whether all are titles of templates, each below the next.
-fn are_in_order(templates: &[(Title, Text)]) -> bool
-    ensures { IsTrue result → AreInOrder templates.now }
-{
-    for at in 0..templates.len() {
-        if !goes_on(templates, at) {
+    for at in 1..pages.len() {
+        if !is_below(&pages[at - 1].0, &pages[at].0) {
             return false;
         }
     }
     true
 }
 
-/// Enters the place of a title, over an earlier one.
-fn enter(places: &mut BTreeMap<Title, usize>, title: &Title, place: usize) -> Result<(), AllocError>
-    ensures { IfOk result (λ _. Updates bytes_cmp places.old places.new title.now (Some place)) }
+fn is_below(one: &Title, other: &Title) -> bool
+    ensures { IsTrue result → bytes_cmp one.now other.now ≡ Less }
 {
-    places.insert(title.clone()?, place)?;
-    Ok(())
+    match one.text().cmp(other.text()) {
+        Ordering::Less => true,
+        Ordering::Equal => false,
+        Ordering::Greater => false,
+    }
 }
 
-/// The places of the pages by their titles; of pages with one title the first counts.
-fn places_of(
+/// The text of the page that is named, in a list that rises.
+fn find_named<'a>(
     alloc: Global,
-    templates: &[(Title, Text)],
-) -> Result<BTreeMap<Title, usize>, AllocError>
-    ensures { IfOk result (λ places. (title : List ℕ) → get bytes_cmp places title ≡ first_place 0 templates.now title) }
+    pages: &'a [(Title, Text)],
+    name: &str,
+) -> Result<Option<&'a Text>, AllocError>
+    requires order { IsRising pages.now }
+    requires short { length name.now ≤ brackets_max }
+    ensures { IfOk result (λ found. option_copied found ≡ text_named pages.now name.now) }
 {
-    let mut places = BTreeMap::new(alloc);
-    let mut place = templates.len();
-    while 0 < place {
-        place -= 1;
-        enter(&mut places, &templates[place].0, place)?;
+    let bytes = name.as_bytes();
+    if let Some(first) = page_markup::plain_first(bytes) {
+        let (_, rest) = bytes.split_at(1);
+        return Ok(find(pages, Wanted::After { first, rest }));
     }
-    Ok(places)
-}
-
-fn index_of(alloc: Global, templates: &[(Title, Text)]) -> Result<Index, AllocError>
-    ensures { IfOk result (λ index. IsIndexOf index templates.now) }
-{
-    if are_in_order(templates) {
-        Ok(Index::InOrder)
-    } else {
-        Ok(Index::ByTitle(places_of(alloc, templates)?))
+    match page_markup::template_title(alloc, name)? {
+        Some(title) => Ok(find(pages, Wanted::Whole(title.text()))),
+        None => Ok(None),
     }
 }
 
-/// A title that is looked for: its bytes, or the two parts of what stands behind `Template:` in it.
+/// A title that is looked for: its text, or the two parts of what stands after `Template:` in it.
 #[derive(Clone, Copy, Debug)]
 enum Wanted<'n> {
-    Whole(&'n [u8]),
-    Behind { first: u8, rest: &'n [u8] },
+    Whole(&'n str),
+    After { first: u8, rest: &'n [u8] },
 }
 
-/// How what stands behind `Template:` in a title compares with such a text in two parts.
-#[tactic(auto, using(crate::proofs::Lookups::nothing_behind, crate::proofs::Lookups::first_below, crate::proofs::Lookups::first_above, crate::proofs::Lookups::first_alike))]
-fn order_behind(behind: &[u8], first: u8, rest: &[u8]) -> Ordering
-    ensures { result ≡ bytes_cmp behind.now (first ∷ rest.now) }
-{
-    if behind.is_empty() {
-        return Ordering::Less;
-    }
-    let letter = behind[0];
-    if letter < first {
-        return Ordering::Less;
-    }
-    if first < letter {
-        return Ordering::Greater;
-    }
-    let (_, others) = behind.split_at(1);
-    order_of(others, rest)
-}
-
-#[tactic(auto, using(crate::proofs::Lookups::behind_prefix))]
-fn order_of_wanted(title: &[u8], wanted: Wanted<'_>) -> Ordering
-    requires { begins template_prefix title.now ≡ true }
-    ensures { result ≡ bytes_cmp title.now (title_wanted wanted.entry) }
-{
-    match wanted {
-        Wanted::Whole(other) => order_of(title, other),
-        Wanted::Behind { first, rest } => {
-            let (_, behind) = title.split_at(9);
-            order_behind(behind, first, rest)
-        }
-    }
-}
-
-/// The text of the page of this title, in a list that is in order.
-fn find_halving<'a>(templates: &'a [(Title, Text)], wanted: Wanted<'_>) -> Option<&'a Text>
-    requires { AreInOrder templates.now }
-    ensures { option_copied result ≡ template_text templates.now (title_wanted wanted.entry) }
+/// The text of the page of this title.
+fn find<'a>(pages: &'a [(Title, Text)], wanted: Wanted<'_>) -> Option<&'a Text>
+    requires { IsRising pages.now }
+    ensures { option_copied result ≡ template_text pages.now (title_wanted wanted.entry) }
 {
     let mut low = 0;
-    let mut high = templates.len();
+    let mut high = pages.len();
     while low < high {
         let middle = low + (high - low) / 2;
-        let page = &templates[middle];
-        match order_of_wanted(page.0.text().as_bytes(), wanted) {
+        let page = &pages[middle];
+        match order_of(page.0.text(), wanted) {
             Ordering::Less => low = middle + 1,
             Ordering::Equal => return Some(&page.1),
             Ordering::Greater => high = middle,
@@ -198,73 +118,38 @@ fn find_halving<'a>(templates: &'a [(Title, Text)], wanted: Wanted<'_>) -> Optio
     None
 }
 
-/// The text of the page of this title, by the index.
-fn find_place<'a>(
-    places: &BTreeMap<Title, usize>,
-    templates: &'a [(Title, Text)],
-    title: &Title,
-) -> Option<&'a Text>
-    ensures { option_copied result ≡ indexed places.now templates.now title.now }
+/// How a title compares with the one that is looked for.
+#[tactic(auto, using(crate::proofs::Lookups::after_prefix, crate::proofs::Lookups::before_prefix))]
+fn order_of(title: &str, wanted: Wanted<'_>) -> Ordering
+    ensures { result ≡ bytes_cmp title.now (title_wanted wanted.entry) }
 {
-    match places.get(title) {
-        Some(place) => match templates.get(*place) {
-            Some((_, text)) => Some(text),
-            None => None,
-        },
-        None => None,
+    match wanted {
+        Wanted::Whole(other) => title.cmp(other),
+        Wanted::After { first, rest } => {
+            if !title.as_bytes().starts_with(b"Template:") {
+                return title.cmp("Template:");
+            }
+            let (_, after) = title.as_bytes().split_at(9);
+            order_after(after, first, rest)
+        }
     }
 }
 
-/// The text of the page that is named, in a list that is in order.
-fn find_in_order<'a>(
-    alloc: Global,
-    templates: &'a [(Title, Text)],
-    name: &str,
-) -> Result<Option<&'a Text>, AllocError>
-    requires order { AreInOrder templates.now }
-    requires short { length name.now ≤ 512 }
-    ensures { IfOk result (λ found. option_copied found ≡ text_named (template_text templates.now) name.now) }
+/// How what stands after `Template:` in a title compares with such a text in two parts.
+#[tactic(auto, using(crate::proofs::Lookups::nothing_after, crate::proofs::Lookups::first_below, crate::proofs::Lookups::first_above, crate::proofs::Lookups::first_alike))]
+fn order_after(after: &[u8], first: u8, rest: &[u8]) -> Ordering
+    ensures { result ≡ bytes_cmp after.now (first ∷ rest.now) }
 {
-    let bytes = name.as_bytes();
-    if let Some(first) = page_markup::plain_first(bytes) {
-        let (_, rest) = bytes.split_at(1);
-        return Ok(find_halving(templates, Wanted::Behind { first, rest }));
+    if after.is_empty() {
+        return Ordering::Less;
     }
-    match page_markup::template_title(alloc, name)? {
-        Some(title) => Ok(find_halving(templates, Wanted::Whole(title.text().as_bytes()))),
-        None => Ok(None),
+    let byte = after[0];
+    if byte < first {
+        return Ordering::Less;
     }
-}
-
-/// The text of the page that is named, by the index.
-fn find_by_title<'a>(
-    alloc: Global,
-    places: &BTreeMap<Title, usize>,
-    templates: &'a [(Title, Text)],
-    name: &str,
-) -> Result<Option<&'a Text>, AllocError>
-    requires places { (t : List ℕ) → get bytes_cmp places.now t ≡ first_place 0 templates.now t }
-    requires short { length name.now ≤ 512 }
-    ensures { IfOk result (λ found. option_copied found ≡ text_named (template_text templates.now) name.now) }
-{
-    match page_markup::template_title(alloc, name)? {
-        Some(title) => Ok(find_place(places, templates, &title)),
-        None => Ok(None),
+    if first < byte {
+        return Ordering::Greater;
     }
-}
-
-fn find_named<'a>(
-    alloc: Global,
-    index: &Index,
-    templates: &'a [(Title, Text)],
-    name: &str,
-) -> Result<Option<&'a Text>, AllocError>
-    requires index { IsIndexOf index.now templates.now }
-    requires short { length name.now ≤ 512 }
-    ensures { IfOk result (λ found. option_copied found ≡ text_named (template_text templates.now) name.now) }
-{
-    match index {
-        Index::InOrder => find_in_order(alloc, templates, name),
-        Index::ByTitle(places) => find_by_title(alloc, places, templates, name),
-    }
+    let (_, others) = after.split_at(1);
+    others.cmp(rest)
 }

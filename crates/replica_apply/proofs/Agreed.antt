@@ -5,7 +5,7 @@ use Rattle.std.specs.List.{Contains}
 use Rattle.std.proofs.lemmas.List.Elements.{Contains-append_left, Contains-push}
 use Rattle.wiki_model.specs.Bytes.{Bytes}
 use Rattle.wiki_model.specs.Titles.{Title, Text, title_of, url_of}
-use Rattle.wiki_model.specs.Html.{Templates, Mark, BoldItalic, Bold, Italic, Link, Include, Letter, two, enclosed, bracketed, ok_of, target_and_label, link, template_named, include, or_else, mark_at, Reading, Reader, element, escaped, escaped_byte, then_rest, read_mark, inline_from, inline}
+use Rattle.wiki_model.specs.Html.{Templates, Mark, BoldItalic, Bold, Italic, Link, Include, Byte, two, enclosed, bracketed, ok_of, target_and_label, link, template_named, include, or_else, mark_at, Reading, Reader, element, escaped, escaped_byte, then_rest, read_mark, inline_from, inline}
 use Rattle.page_markup.specs.Names.{listed, name_here, names_from}
 use Rattle.replica_apply.specs.Reached.{Reached, in_line}
 use Rattle.replica_apply.proofs.Stages.{through, reached_more}
@@ -18,7 +18,7 @@ Held P Q (Bold inner rest) = P inner × P rest
 Held P Q (Italic inner rest) = P inner × P rest
 Held P Q (Link target label rest) = P rest
 Held P Q (Include text rest) = Q text × P rest
-Held P Q (Letter c rest) = P rest
+Held P Q (Byte c rest) = P rest
 
 named_one : (u : Title) → Contains (listed (Some u)) u
 named_one u = Contains-push [] u
@@ -43,7 +43,7 @@ mark_same T U n c rest h =
     (or_else (two Bold (enclosed (codes "'''") text))
     (or_else (two Italic (enclosed (codes "''") text))
     (or_else (option_and_then link (bracketed (codes "[[") (codes "]]") text)) o))))
-    (Letter c rest))
+    (Byte c rest))
     (include_all T U n (bracketed (codes "{{") (codes "}}") text) h)
 
 -- a mark holds parts of the text, and the text of a template that is named at its place
@@ -94,7 +94,7 @@ module _ (P : Bytes → Type 0) (Q : Text → Type 0) where
       let pair = two Italic (enclosed (codes "''") text) in
       let linked = option_and_then link (bracketed (codes "[[") (codes "]]") text) in
       let included = option_and_then (include T n) (bracketed (codes "{{") (codes "}}") text) in
-      held_mark (or_else five (or_else three (or_else pair (or_else linked included)))) (Letter c rest)
+      held_mark (or_else five (or_else three (or_else pair (or_else linked included)))) (Byte c rest)
       (held_or five (or_else three (or_else pair (or_else linked included))) (held_two BoldItalic (λ a b i. i) (enclosed (codes "'''''") text) (enclosed_parts P closed (codes "'''''") text h))
       (held_or three (or_else pair (or_else linked included)) (held_two Bold (λ a b i. i) (enclosed (codes "'''") text) (enclosed_parts P closed (codes "'''") text h))
       (held_or pair (or_else linked included) (held_two Italic (λ a b i. i) (enclosed (codes "''") text) (enclosed_parts P closed (codes "''") text h))
@@ -116,7 +116,7 @@ read_same r s i j P Q f g (Italic inner rest) h n = then_same r s (codes "<i>") 
 read_same r s i j P Q f g (Link target label rest) h n =
     then_same r s (codes "<a href=\"/wiki/" ++ url_of target ++ codes "\">") (codes "</a>") rest (record { html = escaped label; included = n }) (record { html = escaped label; included = n }) refl (f rest h)
 read_same r s i j P Q f g (Include text rest) h n = then_same r s [] [] rest (i (n + length text) (in_line text)) (j (n + length text) (in_line text)) (g text h.0 (n + length text)) (f rest h.1)
-read_same r s i j P Q f g (Letter c rest) h n = then_same r s [] [] rest (record { html = escaped_byte c; included = n }) (record { html = escaped_byte c; included = n }) refl (f rest h)
+read_same r s i j P Q f g (Byte c rest) h n = then_same r s [] [] rest (record { html = escaped_byte c; included = n }) (record { html = escaped_byte c; included = n }) refl (f rest h)
 
 -- where no template is read
 plain_same : (T U : Templates) (i : Reader) (fuel n : ℕ) (text : Bytes) → inline_from T false i fuel n text ≡ inline_from U false i fuel n text
@@ -134,7 +134,7 @@ reached_wide T d a b t sub (inr v) = through T d b t v.0 v.1 (sub v.0 v.2) v.3 v
 
 pub agree_closed : (T U : Templates) (d : ℕ) → IsClosed (Agree T U (suc d))
 agree_closed T U d = record {
-  fronts = λ k s h t r. h t (reached_wide T d (take k s) s t (λ u c. names_take k s u c) r);
+  prefixes = λ k s h t r. h t (reached_wide T d (take k s) s t (λ u c. names_take k s u c) r);
   backs = λ k s h t r. h t (reached_wide T d (drop k s) s t (λ u c. names_drop k s u c) r);
 }
 

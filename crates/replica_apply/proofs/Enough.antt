@@ -6,13 +6,13 @@ use Rattle.std.proofs.lemmas.List.Elements.{Contains-append_left, Contains-appen
 use Rattle.std.specs.Cmp.Lexicographic.{same_text, nat_list_eq_equiv}
 use Rattle.wiki_model.specs.Bytes.{Bytes, pieces, line_feed}
 use Rattle.wiki_model.specs.Titles.{Title, Text}
-use Rattle.wiki_model.specs.History.{page_text}
-use Rattle.wiki_model.specs.Html.{Templates, Reading, inline, blocks, blocks_of, line_of, notice, page_html, notice_title, element, escaped, line_end, between}
-use Rattle.page_render.specs.Use.{template_text}
+use Rattle.wiki_model.specs.History.{Entry, page_text}
+use Rattle.wiki_model.specs.Html.{Templates, Reading, inline, blocks, blocks_of, line_of, notice, html, page_html, notice_title, element, escaped, line_end, between}
+use Rattle.page_render.specs.AsModel.{template_text}
 use Rattle.replica_apply.specs.declared.snapshot.Snapshot.{Snapshot}
-use Rattle.replica_apply.specs.Kept.{Kept, page_in}
+use Rattle.replica_apply.specs.Replica.{ReplicaState, page_in, IsPrefix}
 use Rattle.replica_apply.specs.Reached.{AreTemplates, AreTemplatesOf, in_line}
-use Rattle.replica_apply.specs.Snapshots.{IsSnapshot, IsEnough}
+use Rattle.replica_apply.specs.Snapshot.{IsSnapshot, rendered}
 use Rattle.replica_apply.proofs.Agreed.{Agree, agree_closed, agree_less, inline_same}
 use Rattle.replica_apply.proofs.Lines.{blocks_held, blocks_same}
 
@@ -100,11 +100,12 @@ page_by : (T : Templates) (list : List (Title × Text)) (markup : ℕ) (title : 
 page_by T list markup title above None are = refl
 page_by T list markup title above (Some text) are = ap Some (page_same T (template_text list) markup title text above (agreed T text list are))
 
-pub enough : (kept : Kept) (title : Title) (reading : ℕ) (s : Snapshot) → IsSnapshot kept title reading s → IsEnough kept title s
-enough kept title reading s is history markup front =
+pub enough : (kept : ReplicaState) (title : Title) (reading : ℕ) (s : Snapshot) (history : List Entry) (markup : ℕ) → IsSnapshot kept title reading s → IsPrefix history kept
+    → html history s.upto title markup ≡ rendered markup title s
+enough kept title reading s history markup is prefix =
     let page_of : Templates → Option Bytes = λ T. option_map (λ text. page_html markup title text T (T notice_title)) (T title) in
-    let pages : page_in kept ≡ page_text history (length history) = λ i t. front.pages t i in
-    ap (λ k. page_of (page_text history k)) (is.upto ∙ front.applied)
+    let pages : page_in kept ≡ page_text history (length history) = λ i t. prefix.pages t i in
+    ap (λ k. page_of (page_text history k)) (is.upto ∙ prefix.applied)
     ∙ ap page_of (sym pages)
     ∙ page_by (page_in kept) s.templates markup title (page_in kept notice_title) (page_in kept title) is.templates
     ∙ ap (λ n. option_map (λ text. page_html markup title text (template_text s.templates) n) (page_in kept title)) (sym is.notice)

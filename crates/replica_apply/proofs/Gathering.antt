@@ -11,9 +11,9 @@ use Rattle.wiki_model.specs.Bytes.{Bytes}
 use Rattle.wiki_model.specs.Titles.{Title, Text}
 use Rattle.wiki_model.specs.Html.{Templates}
 use Rattle.page_markup.specs.Names.{AreNames, names_from}
-use Rattle.replica_apply.specs.Kept.{page_at, Puts}
+use Rattle.replica_apply.specs.Replica.{page_at, Puts}
 use Rattle.replica_apply.specs.Reached.{Reached, in_line}
-use Rattle.replica_apply.specs.Gathered.{IsPart, IsTaken, Gathers, IsNamedBy, IsStage}
+use Rattle.replica_apply.specs.Gather.{IsPart, IsTaken, Gathers, IsNamedBy, IsStage}
 use Rattle.replica_apply.proofs.Stages.{IsBehind, reached_more, reached_back, reached_on}
 
 clash : (o : Option Text) (x : Text) → o ≡ None → o ≡ Some x → ⊥

@@ -1,4 +1,4 @@
-pub mod Fronts
+pub mod Prefixes
 pub mod Stages
 pub mod Gathering
 pub mod Lists
@@ -6,3 +6,4 @@ pub mod Slices
 pub mod Agreed
 pub mod Lines
 pub mod Enough
+pub mod Of

@@ -4,7 +4,7 @@ use Rattle.std.specs.Prelude.{if◌then◌else◌, codes}
 use Rattle.std.proofs.lemmas.Bool.Decides.{nat_tests}
 use Rattle.std.proofs.Math.Seq.{take-length, take-append_seam, take-append-add}
 use Rattle.wiki_model.specs.Bytes.{Bytes, line_feed, pieces, in_first, trimmed}
-use Rattle.wiki_model.specs.Html.{Line, Blank, HeadingLine, ItemLine, PlainLine, Block, Gap, Heading, Items, Paragraph, line_of, is_heading, heading_level, middle_of, with_front, with_item, with_line, blocks_of, Reading, Reader, element, heading_tag, line_end, each_between, between, block, blocks}
+use Rattle.wiki_model.specs.Html.{Line, Blank, HeadingLine, ItemLine, PlainLine, Block, Gap, Heading, Items, Paragraph, line_of, is_heading, heading_level, middle_of, with_prefix, with_item, with_line, blocks_of, Reading, Reader, element, heading_tag, line_end, each_between, between, block, blocks}
 use Rattle.replica_apply.proofs.Slices.{IsClosed, trimmed_part}
 
 -- the lines of a text, joined again
@@ -62,7 +62,7 @@ HeldBlocks P (Heading level text ∷ bs) = P text × HeldBlocks P bs
 HeldBlocks P (Items texts ∷ bs) = AllOf P texts × HeldBlocks P bs
 HeldBlocks P (Paragraph text ∷ bs) = P text × HeldBlocks P bs
 
--- a paragraph that comes first is a front of the text
+-- a paragraph that comes first is a prefix of the text
 abbrev Begins : List Block → Bytes → Type 0
 Begins [] s = Unit {0}
 Begins (Gap ∷ bs) s = Unit {0}
@@ -84,12 +84,12 @@ module _ (P : Bytes → Type 0) (closed : IsClosed P) where
   line_held : (line : Bytes) → P line → HeldLine P line (line_of line)
   line_held line h =
       let n = heading_level line in
-      let middle : P (middle_of n line) = trimmed_part P closed (take (length line - (n + n)) (drop n line)) (closed.fronts (length line - (n + n)) (drop n line) (closed.backs n line h)) in
+      let middle : P (middle_of n line) = trimmed_part P closed (take (length line - (n + n)) (drop n line)) (closed.prefixes (length line - (n + n)) (drop n line) (closed.backs n line h)) in
       let item : P (trimmed (drop 1 line)) = trimmed_part P closed (drop 1 line) (closed.backs 1 line h) in
       line_choice line _ Blank _ tt (line_choice line (is_heading line) (HeadingLine n (middle_of n line)) _ middle (line_choice line _ (ItemLine (trimmed (drop 1 line))) (PlainLine line) item refl))
 
   -- the last line, and a line before others
-  last_held : (line : Bytes) (l : Line) → P line → HeldLine P line l → HeldBlocks P (with_front l []) × Begins (with_front l []) line
+  last_held : (line : Bytes) (l : Line) → P line → HeldLine P line l → HeldBlocks P (with_prefix l []) × Begins (with_prefix l []) line
   last_held line Blank p h = (tt, tt)
   last_held line (HeadingLine n m) p h = ((h, tt), tt)
   last_held line (ItemLine t) p h = (((h, tt), tt), tt)
@@ -105,7 +105,7 @@ module _ (P : Bytes → Type 0) (closed : IsClosed P) where
   alone_held : (t r : Bytes) (bs : List Block) → P (t ++ (line_feed ∷ r)) → HeldBlocks P bs → HeldBlocks P (Paragraph t ∷ bs) × Begins (Paragraph t ∷ bs) (t ++ (line_feed ∷ r))
   alone_held t r bs p i =
       let e : take (length t) (t ++ (line_feed ∷ r)) ≡ t = take-append_seam t (line_feed ∷ r) in
-      ((subst P e (closed.fronts (length t) (t ++ (line_feed ∷ r)) p), i), (length t, sym e))
+      ((subst P e (closed.prefixes (length t) (t ++ (line_feed ∷ r)) p), i), (length t, sym e))
 
   paragraph_held : (t r : Bytes) (bs : List Block) → P (t ++ (line_feed ∷ r)) → HeldBlocks P bs → Begins bs r → HeldBlocks P (with_line t bs) × Begins (with_line t bs) (t ++ (line_feed ∷ r))
   paragraph_held t r [] p h b = alone_held t r [] p h
@@ -115,29 +115,29 @@ module _ (P : Bytes → Type 0) (closed : IsClosed P) where
   paragraph_held t r (Paragraph q ∷ bs) p h b =
       let k = length t + suc b.0 in
       let e : t ++ (line_feed ∷ q) ≡ take k (t ++ (line_feed ∷ r)) = ap (λ u. t ++ (line_feed ∷ u)) b.1 ∙ sym (take-append-add t (line_feed ∷ r) (suc b.0)) in
-      ((subst P (sym e) (closed.fronts k (t ++ (line_feed ∷ r)) p), h.1), (k, e))
+      ((subst P (sym e) (closed.prefixes k (t ++ (line_feed ∷ r)) p), h.1), (k, e))
 
-  front_held : (line r : Bytes) (l : Line) (bs : List Block) → P (line ++ (line_feed ∷ r)) → HeldLine P line l → HeldBlocks P bs → Begins bs r → HeldBlocks P (with_front l bs) × Begins (with_front l bs) (line ++ (line_feed ∷ r))
-  front_held line r Blank bs p h i b = (i, tt)
-  front_held line r (HeadingLine n m) bs p h i b = ((h, i), tt)
-  front_held line r (ItemLine t) bs p h i b = item_held t bs (line ++ (line_feed ∷ r)) h i
-  front_held line r (PlainLine t) bs p h i b = subst (λ x. HeldBlocks P (with_line x bs) × Begins (with_line x bs) (line ++ (line_feed ∷ r))) (sym h) (paragraph_held line r bs p i b)
+  prefix_held : (line r : Bytes) (l : Line) (bs : List Block) → P (line ++ (line_feed ∷ r)) → HeldLine P line l → HeldBlocks P bs → Begins bs r → HeldBlocks P (with_prefix l bs) × Begins (with_prefix l bs) (line ++ (line_feed ∷ r))
+  prefix_held line r Blank bs p h i b = (i, tt)
+  prefix_held line r (HeadingLine n m) bs p h i b = ((h, i), tt)
+  prefix_held line r (ItemLine t) bs p h i b = item_held t bs (line ++ (line_feed ∷ r)) h i
+  prefix_held line r (PlainLine t) bs p h i b = subst (λ x. HeldBlocks P (with_line x bs) × Begins (with_line x bs) (line ++ (line_feed ∷ r))) (sym h) (paragraph_held line r bs p i b)
 
   lines_held : (ls : List Bytes) → P (joined ls) → HeldBlocks P (blocks_of (map line_of ls)) × Begins (blocks_of (map line_of ls)) (joined ls)
   lines_held [] p = (tt, tt)
   lines_held (l ∷ []) p = by p
     where
-      by : P (l ++ []) → HeldBlocks P (with_front (line_of l) []) × Begins (with_front (line_of l) []) (l ++ [])
+      by : P (l ++ []) → HeldBlocks P (with_prefix (line_of l) []) × Begins (with_prefix (line_of l) []) (l ++ [])
       by q =
           let e : l ++ [] ≡ l = append-nil l in
           let here : P l = subst P e q in
-          subst (λ s. HeldBlocks P (with_front (line_of l) []) × Begins (with_front (line_of l) []) s) (sym e) (last_held l (line_of l) here (line_held l here))
+          subst (λ s. HeldBlocks P (with_prefix (line_of l) []) × Begins (with_prefix (line_of l) []) s) (sym e) (last_held l (line_of l) here (line_held l here))
   lines_held (l ∷ m ∷ ls) p =
       let r = joined (m ∷ ls) in
-      let here : P l = subst P (take-append_seam l (line_feed ∷ r)) (closed.fronts (length l) (l ++ (line_feed ∷ r)) p) in
+      let here : P l = subst P (take-append_seam l (line_feed ∷ r)) (closed.prefixes (length l) (l ++ (line_feed ∷ r)) p) in
       let rest : P r = subst P (drop_past l line_feed r) (closed.backs (suc (length l)) (l ++ (line_feed ∷ r)) p) in
       let others = lines_held (m ∷ ls) rest in
-      front_held l r (line_of l) (blocks_of (map line_of (m ∷ ls))) p (line_held l here) others.0 others.1
+      prefix_held l r (line_of l) (blocks_of (map line_of (m ∷ ls))) p (line_held l here) others.0 others.1
 
   pub blocks_held : (text : Bytes) → P text → HeldBlocks P (blocks_of (map line_of (pieces line_feed text)))
   blocks_held text p = (lines_held (pieces 10 text) (subst P (sym (joined_pieces text)) p)).0

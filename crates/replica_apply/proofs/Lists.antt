@@ -8,9 +8,9 @@ use Rattle.wiki_titles.specs.Order.{bytes_cmp}
 use Rattle.wiki_model.specs.Bytes.{Bytes}
 use Rattle.wiki_model.specs.Titles.{Title, Text, title_of}
 use Rattle.wiki_model.specs.Html.{Templates, notice_title}
-use Rattle.replica_apply.specs.Kept.{page_at}
+use Rattle.replica_apply.specs.Replica.{page_at}
 use Rattle.replica_apply.specs.Reached.{IsListOf, AreTemplates, AreTemplatesOf}
-use Rattle.replica_apply.specs.Gathered.{IsStage}
+use Rattle.replica_apply.specs.Gather.{IsStage}
 
 pub listed : (m : BTreeMap Title Text) (list : List (Title × Text)) → IsOrdered bytes_cmp m → list ≡ m.entries → IsListOf (page_at m) list
 listed m list ordered e = subst (IsListOf (page_at m)) (sym e) (record {

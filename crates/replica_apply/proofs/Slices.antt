@@ -9,10 +9,10 @@ use Rattle.std.proofs.Math.Nat.{eq-or-lt_of_le}
 use Rattle.wiki_model.specs.Bytes.{Bytes, begins, cut_at, skip_spaces, trimmed}
 use Rattle.wiki_model.specs.Titles.{Title}
 use Rattle.wiki_model.specs.Html.{enclosed, cut_after_one, bracketed, if_short, template_named}
-use Rattle.page_markup.specs.Marks.{distance}
+use Rattle.page_markup.specs.Mark.{distance}
 use Rattle.page_markup.specs.Names.{listed, name_here, names_from}
 use Rattle.page_markup.proofs.Places.{distance_within, cut_none, cut_some}
-use Rattle.page_markup.proofs.Taken.{clip, bracketed_front, at_most_or_past}
+use Rattle.page_markup.proofs.Taken.{clip, bracketed_prefix, at_most_or_past}
 
 abbrev pub named_in : Option (Bytes × Bytes) → List Title
 named_in found = listed (option_and_then (λ p. template_named p.0) found)
@@ -20,7 +20,7 @@ named_in found = listed (option_and_then (λ p. template_named p.0) found)
 no_name : (t : Title) → let none : List Title = [] in Contains none t → ⊥
 no_name t h = omega (arith, h.1)
 
--- fronts
+-- prefixes
 clip_by : (p : Bytes × Bytes) (rest : Bytes) (t : Title) (b : Bool) → Contains (named_in (if b then Some (p.0, rest) else None)) t → Contains (named_in (Some p)) t
 clip_by p rest t true h = h
 clip_by p rest t false h = absurd (no_name t h)
@@ -29,18 +29,18 @@ name_clip : (opening closing k : ℕ) (o : Option (Bytes × Bytes)) (t : Title) 
 name_clip opening closing k None t h = h
 name_clip opening closing k (Some p) t h = clip_by p _ t (nat_le (opening + length p.0 + closing) k) h
 
-name_front_by : (k : ℕ) (s : Bytes) (t : Title) → (k ≤ length s) ⊎ (length s < k) → Contains (name_here (take k s)) t → Contains (name_here s) t
-name_front_by k s t (inl l) h =
+name_prefix_by : (k : ℕ) (s : Bytes) (t : Title) → (k ≤ length s) ⊎ (length s < k) → Contains (name_here (take k s)) t → Contains (name_here s) t
+name_prefix_by k s t (inl l) h =
     name_clip 2 2 k (bracketed (codes "{{") (codes "}}") s) t
-    (subst (λ o. Contains (named_in o) t) (bracketed_front (codes "{{") (codes "}}") s k (omega arith) l) h)
-name_front_by k s t (inr l) h = subst (λ u. Contains (name_here u) t) (take_all k s (omega (arith, l))) h
+    (subst (λ o. Contains (named_in o) t) (bracketed_prefix (codes "{{") (codes "}}") s k (omega arith) l) h)
+name_prefix_by k s t (inr l) h = subst (λ u. Contains (name_here u) t) (take_all k s (omega (arith, l))) h
 
-name_front : (k : ℕ) (s : Bytes) (t : Title) → Contains (name_here (take k s)) t → Contains (name_here s) t
-name_front k s t h = name_front_by k s t (at_most_or_past k (length s)) h
+name_prefix : (k : ℕ) (s : Bytes) (t : Title) → Contains (name_here (take k s)) t → Contains (name_here s) t
+name_prefix k s t h = name_prefix_by k s t (at_most_or_past k (length s)) h
 
 names_take_by : (c k : ℕ) (s : Bytes) (t : Title) → (Contains (names_from (take k s)) t → Contains (names_from s) t)
     → Contains (name_here (c ∷ take k s)) t ⊎ Contains (names_from (take k s)) t → Contains (names_from (c ∷ s)) t
-names_take_by c k s t ih (inl h) = Contains-append_left (name_here (c ∷ s)) (names_from s) t (name_front (suc k) (c ∷ s) t h)
+names_take_by c k s t ih (inl h) = Contains-append_left (name_here (c ∷ s)) (names_from s) t (name_prefix (suc k) (c ∷ s) t h)
 names_take_by c k s t ih (inr h) = Contains-append_right (name_here (c ∷ s)) (names_from s) t (ih h)
 
 pub names_take : (k : ℕ) (s : Bytes) (t : Title) → Contains (names_from (take k s)) t → Contains (names_from s) t
@@ -56,7 +56,7 @@ names_drop (suc k) (c ∷ s) t h = Contains-append_right (name_here (c ∷ s)) (
 
 -- what holds of a text's parts
 pub record IsClosed (P : Bytes → Type 0) : Type 0 where
-  pub fronts : (k : ℕ) (s : Bytes) → P s → P (take k s)
+  pub prefixes : (k : ℕ) (s : Bytes) → P s → P (take k s)
   pub backs : (k : ℕ) (s : Bytes) → P s → P (drop k s)
 
 abbrev pub Both : (P : Bytes → Type 0) → Bytes × Bytes → Type 0
@@ -70,7 +70,7 @@ skipped (c ∷ s) = by (nat_eq c 32) (skipped s)
     by true f = (suc f.0, f.1)
     by false f = (0, refl)
 
--- the back of a text that is turned round is a front of it
+-- the back of a text that is turned round is a prefix of it
 turned_back : (s : Bytes) (j : ℕ) → reverse (drop j (reverse s)) ≡ take (length (reverse (drop j (reverse s)))) s
 turned_back s j =
     let x = reverse (drop j (reverse s)) in
@@ -82,7 +82,7 @@ module _ (P : Bytes → Type 0) (closed : IsClosed P) where
   cut_by : (mark s : Bytes) → P s → (distance mark s ≡ length s) ⊎ (distance mark s < length s) → IfSome (cut_at mark s) (Both P)
   cut_by mark s h (inl e) = subst (λ o. IfSome o (Both P)) (sym (cut_none mark s (omega (arith, e)))) tt
   cut_by mark s h (inr l) =
-      subst (λ o. IfSome o (Both P)) (sym (cut_some mark s l)) (closed.fronts (distance mark s) s h, closed.backs (length mark) (drop (distance mark s) s) (closed.backs (distance mark s) s h))
+      subst (λ o. IfSome o (Both P)) (sym (cut_some mark s l)) (closed.prefixes (distance mark s) s h, closed.backs (length mark) (drop (distance mark s) s) (closed.backs (distance mark s) s h))
 
   pub cut_parts : (mark s : Bytes) → P s → IfSome (cut_at mark s) (Both P)
   cut_parts mark s h = cut_by mark s h (eq-or-lt_of_le (distance_within mark s))
@@ -91,7 +91,7 @@ module _ (P : Bytes → Type 0) (closed : IsClosed P) where
   after_by mark c s h (inl e) = subst (λ o. IfSome (option_map (λ p. (c ∷ p.0, p.1)) o) (Both P)) (sym (cut_none mark s (omega (arith, e)))) tt
   after_by mark c s h (inr l) =
       subst (λ o. IfSome (option_map (λ p. (c ∷ p.0, p.1)) o) (Both P)) (sym (cut_some mark s l))
-      (closed.fronts (suc (distance mark s)) (c ∷ s) h, closed.backs (length mark) (drop (distance mark s) s) (closed.backs (suc (distance mark s)) (c ∷ s) h))
+      (closed.prefixes (suc (distance mark s)) (c ∷ s) h, closed.backs (length mark) (drop (distance mark s) s) (closed.backs (suc (distance mark s)) (c ∷ s) h))
 
   after_parts : (mark s : Bytes) → P s → IfSome (cut_after_one mark s) (Both P)
   after_parts mark [] h = tt
@@ -131,7 +131,7 @@ module _ (P : Bytes → Type 0) (closed : IsClosed P) where
   back_part : (s : Bytes) → P s → P (reverse (skip_spaces (reverse s)))
   back_part s h =
       let f = skipped (reverse s) in
-      subst P (sym (ap reverse f.1 ∙ turned_back s f.0)) (closed.fronts (length (reverse (drop f.0 (reverse s)))) s h)
+      subst P (sym (ap reverse f.1 ∙ turned_back s f.0)) (closed.prefixes (length (reverse (drop f.0 (reverse s)))) s h)
 
   pub trimmed_part : (s : Bytes) → P s → P (trimmed s)
   trimmed_part s h = back_part (skip_spaces s) (skip_part s h)

@@ -1,5 +1,5 @@
-pub mod Kept
-pub mod Taken
+pub mod Applied
+pub mod Gather
 pub mod Reached
-pub mod Gathered
-pub mod Snapshots
+pub mod Replica
+pub mod Snapshot

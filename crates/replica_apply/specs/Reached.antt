@@ -5,6 +5,7 @@ use Rattle.std.specs.List.Sorted.{IsStrictlySortedBy}
 use Rattle.std.specs.Map.{keys_of}
 use Rattle.wiki_titles.specs.Order.{bytes_cmp}
 use Rattle.wiki_model.specs.Bytes.{Bytes, replaced, line_feed, space}
+use Rattle.wiki_model.specs.Limits.{nesting_max}
 use Rattle.wiki_model.specs.Titles.{Title, Text}
 use Rattle.wiki_model.specs.Html.{Templates}
 use Rattle.page_markup.specs.Names.{names_from}
@@ -30,7 +31,7 @@ pub record AreTemplates (pages : Templates) (stages : ℕ) (text : Bytes) (templ
   pub sorted : IsStrictlySortedBy bytes_cmp (keys_of templates)
   pub same : (name : Title) (inner : Text) → Contains templates (name, inner) ↔ (Reached pages stages text name × (pages name ≡ Some inner))
 
--- templates nest four deep
+-- templates nest only so deep
 abbrev pub AreTemplatesOf : (pages : Templates) → (page : Option Text) → List (Title × Text) → Type 0
 AreTemplatesOf pages None templates = templates ≡ []
-AreTemplatesOf pages (Some text) templates = AreTemplates pages 4 text templates
+AreTemplatesOf pages (Some text) templates = AreTemplates pages nesting_max text templates

@@ -1,57 +1,70 @@
-// Snapshots of a page.
+// A page of a prefix, with all that its rendering needs.
 ghost use Rattle.std.specs.Prelude.{◌≡◌, ◌-◌, IfOk};
 ghost use Rattle.wiki_model.specs.Html.{notice_title};
-ghost use Rattle.replica_apply.specs.Kept.{page_at};
+ghost use Rattle.replica_apply.specs.Replica.{page_at};
 ghost use Rattle.replica_apply.specs.Reached.{AreTemplatesOf};
-ghost use Rattle.replica_apply.specs.Snapshots.{IsSnapshot};
+ghost use Rattle.replica_apply.specs.Snapshot.{IsSnapshot};
 
 use crate::gather::templates_of;
-use crate::pages::page_of;
-use farm_base::{Listed, Moment};
-use std::alloc::{AllocError, Global};
+use crate::page_map::{page_of, shared};
+use farm_base::{Listed, Memory, Moment};
+use std::alloc::Global;
 use std::collections::BTreeMap;
 use wiki_titles::{Text, Title};
 
-/// A page of a replica's front, with all that its rendering needs.
+/// A page of a replica's prefix, with all that its rendering needs.
 #[derive(Debug, Drop)]
 pub struct Snapshot {
-    /// How many entries the front has.
+    /// How many entries the prefix has.
     pub upto: u64,
-    /// When home appended the last of them; 0 where there is none.
+    /// When home appended the last of them; 0 if there is none.
     pub stamp: Moment,
     /// When the snapshot was taken.
     pub since: Moment,
-    /// By how many milliseconds the stamp is before that; 0 where it is after it.
+    /// By how many milliseconds the stamp is before that; 0 if it is after it.
     pub lag: u64,
+    /// The page's text; none if the prefix has no such page.
     pub page: Option<Text>,
-    /// The template pages that the page's text reaches in four stages, in title order.
+    /// The template pages that the page's text reaches as deep as templates nest, in title order.
     pub templates: Listed<(Title, Text)>,
     /// The text of `MediaWiki:Sitenotice`.
     pub notice: Option<Text>,
 }
 
-#[tactic(auto, using(crate::proofs::Lists::notice_named))]
-fn notice_title(alloc: Global) -> Result<Title, AllocError>
-    ensures { IfOk result (λ title. title ≡ notice_title) }
-{
-    match Title::parse(alloc, "MediaWiki:Sitenotice") {
-        Ok(title) => Ok(title),
-        Err(_) => Err(AllocError),
-    }
+/// Which prefix a snapshot is of, and when it is taken.
+#[derive(Clone, Copy, Debug)]
+pub(crate) struct Point {
+    /// How many entries the prefix has.
+    pub upto: u64,
+    /// When home appended the last of them; 0 if there is none.
+    pub stamp: Moment,
+    /// What the clock reads.
+    pub reading: Moment,
 }
 
-fn notice_of(alloc: Global, pages: &BTreeMap<Title, Text>) -> Result<Option<Text>, AllocError>
-    ensures { IfOk result (λ notice. notice ≡ page_at pages.now notice_title) }
+/// The snapshot of a title's page in this prefix, which has this notice.
+pub(crate) fn take(
+    alloc: Global,
+    point: Point,
+    pages: &BTreeMap<Title, Text>,
+    notice: &Option<Text>,
+    title: &Title,
+) -> Result<Snapshot, Memory>
+    requires { notice.now ≡ page_at pages.now notice_title }
+    ensures { IfOk result (λ s. IsSnapshot (record { applied = point.upto; stamp = point.stamp; pages = pages.now.entries }) title.now point.reading s) }
 {
-    let title = notice_title(alloc)?;
-    page_of(pages, &title)
-}
-
-/// By how much the stamp is before the reading; 0 where it is after it.
-fn lag_behind(reading: Moment, stamp: Moment) -> u64
-    ensures { result ≡ reading - stamp }
-{
-    reading.0.saturating_sub(stamp.0)
+    let page = page_of(pages, title)?;
+    let templates = templates_for(alloc, pages, &page)?;
+    let notice = shared(notice)?;
+    Ok(Snapshot {
+        upto: point.upto,
+        stamp: point.stamp,
+        since: point.reading,
+        lag: lag_at(point.reading, point.stamp),
+        page,
+        templates: Listed::new(templates),
+        notice,
+    })
 }
 
 /// The templates of a page, if it is there.
@@ -59,7 +72,7 @@ fn templates_for(
     alloc: Global,
     pages: &BTreeMap<Title, Text>,
     page: &Option<Text>,
-) -> Result<Vec<(Title, Text)>, AllocError>
+) -> Result<Vec<(Title, Text)>, Memory>
     ensures { IfOk result (λ list. AreTemplatesOf (page_at pages.now) page.now list.items) }
 {
     match page {
@@ -68,27 +81,9 @@ fn templates_for(
     }
 }
 
-/// The snapshot of a title's page in this front.
-pub(crate) fn take(
-    alloc: Global,
-    upto: u64,
-    stamp: Moment,
-    pages: &BTreeMap<Title, Text>,
-    title: &Title,
-    reading: Moment,
-) -> Result<Snapshot, AllocError>
-    ensures { IfOk result (λ s. IsSnapshot (record { applied = upto; stamp = stamp; pages = pages.now.entries }) title.now reading s) }
+/// By how much the stamp is before the reading; 0 if it is after it.
+fn lag_at(reading: Moment, stamp: Moment) -> u64
+    ensures { result ≡ reading - stamp }
 {
-    let page = page_of(pages, title)?;
-    let templates = templates_for(alloc, pages, &page)?;
-    let notice = notice_of(alloc, pages)?;
-    Ok(Snapshot {
-        upto,
-        stamp,
-        since: reading,
-        lag: lag_behind(reading, stamp),
-        page,
-        templates: Listed::new(templates),
-        notice,
-    })
+    reading.0.saturating_sub(stamp.0)
 }

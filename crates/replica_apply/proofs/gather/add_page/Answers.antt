@@ -1,5 +1,5 @@
 use Rattle.std.proofs.Common.{sym, ◌∙◌}
-use Rattle.replica_apply.specs.Kept.{page_at}
+use Rattle.replica_apply.specs.Replica.{page_at}
 use Rattle.replica_apply.proofs.Gathering.{new_one}
 use Rattle.replica_apply.proofs.gather.add_page.Goals as goal
 

@@ -1,4 +1,4 @@
-use Rattle.replica_apply.specs.Kept.{page_at}
+use Rattle.replica_apply.specs.Replica.{page_at}
 use Rattle.replica_apply.proofs.Gathering.{no_titles, title_more, all_titles}
 use Rattle.replica_apply.proofs.gather.add_pages.Goals as goal
 

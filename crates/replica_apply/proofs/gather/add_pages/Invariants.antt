@@ -1,7 +1,7 @@
 use Rattle.std.proofs.Common.{take}
 use Rattle.std.specs.List.{Contains}
-use Rattle.replica_apply.specs.Kept.{page_at}
-use Rattle.replica_apply.specs.Gathered.{Gathers}
+use Rattle.replica_apply.specs.Replica.{page_at}
+use Rattle.replica_apply.specs.Gather.{Gathers}
 use Rattle.replica_apply.proofs.gather.add_pages.Given as goal
 
 abbrev pub invariant-loop-title : goal.invariant-loop-title

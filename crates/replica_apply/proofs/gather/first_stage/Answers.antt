@@ -1,8 +1,8 @@
 use Rattle.std.proofs.Common.{subst, []}
 use Rattle.std.specs.List.{Contains}
 use Rattle.page_markup.specs.Names.{names_from}
-use Rattle.replica_apply.specs.Kept.{page_at}
-use Rattle.replica_apply.specs.Gathered.{Gathers}
+use Rattle.replica_apply.specs.Replica.{page_at}
+use Rattle.replica_apply.specs.Gather.{Gathers}
 use Rattle.replica_apply.proofs.Gathering.{by_names}
 use Rattle.replica_apply.proofs.gather.first_stage.Goals as goal
 

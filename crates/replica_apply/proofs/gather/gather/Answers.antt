@@ -2,8 +2,8 @@ use Rattle.std.proofs.Common.{arith, ap, subst, []}
 use Rattle.std.specs.Map.{lookup}
 use Rattle.std.specs.BTreeMap.{is_at}
 use Rattle.wiki_titles.specs.Order.{bytes_cmp}
-use Rattle.replica_apply.specs.Kept.{page_at}
-use Rattle.replica_apply.specs.Gathered.{Gathers, IsNamedBy}
+use Rattle.replica_apply.specs.Replica.{page_at}
+use Rattle.replica_apply.specs.Gather.{Gathers, IsNamedBy}
 use Rattle.replica_apply.proofs.Gathering.{first_is, next_is}
 use Rattle.replica_apply.proofs.gather.gather.Goals as goal
 

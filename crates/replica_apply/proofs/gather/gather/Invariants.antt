@@ -1,6 +1,6 @@
 use Rattle.std.proofs.Common.{◌≤◌, ◌-◌}
-use Rattle.replica_apply.specs.Kept.{page_at}
-use Rattle.replica_apply.specs.Gathered.{IsStage}
+use Rattle.replica_apply.specs.Replica.{page_at}
+use Rattle.replica_apply.specs.Gather.{IsStage}
 use Rattle.replica_apply.proofs.gather.gather.Given as goal
 
 abbrev pub invariant-loop-stage : goal.invariant-loop-stage

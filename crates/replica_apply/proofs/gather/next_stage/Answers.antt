@@ -1,5 +1,5 @@
 use Rattle.std.proofs.Common.{[]}
-use Rattle.replica_apply.specs.Kept.{page_at}
+use Rattle.replica_apply.specs.Replica.{page_at}
 use Rattle.replica_apply.proofs.Gathering.{text_more}
 use Rattle.replica_apply.proofs.gather.next_stage.Goals as goal
 

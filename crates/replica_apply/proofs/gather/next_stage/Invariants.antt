@@ -1,6 +1,6 @@
 use Rattle.std.proofs.Common.{take, []}
-use Rattle.replica_apply.specs.Kept.{page_at}
-use Rattle.replica_apply.specs.Gathered.{Gathers, IsNamedBy}
+use Rattle.replica_apply.specs.Replica.{page_at}
+use Rattle.replica_apply.specs.Gather.{Gathers, IsNamedBy}
 use Rattle.replica_apply.proofs.gather.next_stage.Given as goal
 
 abbrev pub invariant-loop-text : goal.invariant-loop-text

@@ -1,4 +1,4 @@
-use Rattle.replica_apply.specs.Kept.{page_at}
+use Rattle.replica_apply.specs.Replica.{page_at}
 use Rattle.replica_apply.proofs.Lists.{are_templates}
 use Rattle.replica_apply.proofs.gather.templates_of.Goals as goal
 

@@ -1,8 +1,8 @@
-use Rattle.replica_apply.specs.Snapshots.{IsSnapshot}
-use Rattle.replica_apply.proofs.Enough.{enough}
+use Rattle.replica_apply.specs.Snapshot.{IsSnapshot}
+use Rattle.replica_apply.proofs.Of.{of_each}
 use Rattle.replica_apply.proofs.replica.Replica.snapshot.Goals as goal
 
-pub returns-in-Ok-clause-enough : goal.returns-in-Ok-clause-enough
-returns-in-Ok-clause-enough c =
-    let exact : IsSnapshot c.args.self.now c.args.title.now c.args.reading c.in-Ok.snapshot = rw (← c.self.view_is) c.in-Ok.ensures in
-    enough c.args.self.now c.args.title.now c.args.reading c.in-Ok.snapshot exact
+pub returns-clause-of : goal.returns-clause-of
+returns-clause-of c =
+    let exact : IsSnapshot c.args.self.now c.args.title.now c.args.reading c.in_ok-made.made = rw (← c.self.view_is) c.in_ok-made.ensures in
+    of_each c.args.self.now c.args.title.now c.args.reading c.in_ok-made.made exact

@@ -1,7 +1,0 @@
-use Rattle.std.proofs.Common.{arith}
-use Rattle.page_markup.proofs.Closes.{next_within}
-use Rattle.page_markup.proofs.finder.next_place.Goals as goal
-
-pub returns-then-from-known-clause-end : goal.returns-then-from-known-clause-end
-returns-then-from-known-clause-end c =
-    omega (arith, c.requires.remembered c.if-from-known.true, next_within c.args.mark.now c.args.from c.args.text.now c.requires.within)

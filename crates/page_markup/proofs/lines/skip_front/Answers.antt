@@ -1,7 +1,0 @@
-use Rattle.std.proofs.Common.{◌∙◌, sym, arith, None}
-use Rattle.std.proofs.lemmas.Str.Pattern.{strip_prefix_char}
-use Rattle.page_markup.proofs.LineKinds.{skip_none}
-use Rattle.page_markup.proofs.lines.skip_front.Goals as goal
-
-pub returns-clause-value : goal.returns-clause-value
-returns-clause-value c = sym (skip_none c.loop-shorter.rest.now (strip_prefix_char 32 c.loop-shorter.rest.now None c.in_default.ensures.cases (omega arith))) ∙ c.loop-shorter.invariant.1
