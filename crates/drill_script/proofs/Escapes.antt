@@ -5,7 +5,7 @@ use Rattle.std.proofs.lemmas.Bool.Decides.{nat_tests}
 use Rattle.std.proofs.lemmas.Option.{none-some}
 use Rattle.wiki_model.specs.Bytes.{Bytes}
 use Rattle.wiki_model.specs.Script.{unescaped, after_backslash}
-use Rattle.drill_script.specs.Reading.{cut_at, letter_at}
+use Rattle.drill_script.specs.Reading.{cut_at, character_at}
 
 abbrev is_backslash : ℕ → Bool
 is_backslash b = b == 92
@@ -28,16 +28,16 @@ pub map_nothing : (o : Option Bytes) → option_map (λ tail. [] ++ tail) o ≡ 
 map_nothing None = refl
 map_nothing (Some x) = refl
 
-map_twice : (front more : Bytes) (o : Option Bytes) → option_map (λ tail. front ++ tail) (option_map (λ tail. more ++ tail) o) ≡ option_map (λ tail. (front ++ more) ++ tail) o
-map_twice front more None = refl
-map_twice front more (Some x) = ap Some (sym (append_assoc front more x))
+map_twice : (prefix more : Bytes) (o : Option Bytes) → option_map (λ tail. prefix ++ tail) (option_map (λ tail. more ++ tail) o) ≡ option_map (λ tail. (prefix ++ more) ++ tail) o
+map_twice prefix more None = refl
+map_twice prefix more (Some x) = ap Some (sym (append_assoc prefix more x))
 
 some_same : {A : Type 0} {x y : A} → Some x ≡ Some y → x ≡ y
 some_same e = cc
 
-with_first : (c : ℕ) (front : Bytes) (o : Option Bytes) → option_map (λ rest. c ∷ rest) (option_map (λ tail. front ++ tail) o) ≡ option_map (λ tail. (c ∷ front) ++ tail) o
-with_first c front None = refl
-with_first c front (Some x) = refl
+with_first : (c : ℕ) (prefix : Bytes) (o : Option Bytes) → option_map (λ rest. c ∷ rest) (option_map (λ tail. prefix ++ tail) o) ≡ option_map (λ tail. (c ∷ prefix) ++ tail) o
+with_first c prefix None = refl
+with_first c prefix (Some x) = refl
 
 one_on : (c : ℕ) (xs : Bytes) (p m n : ℕ) → m ≡ suc p → n ≡ suc (p + 1) →
     option_map (λ rest. c ∷ rest) (option_map (λ tail. take p xs ++ tail) (unescaped (92 ∷ drop (p + 1) xs))) ≡ option_map (λ tail. take m (c ∷ xs) ++ tail) (unescaped (92 ∷ drop n (c ∷ xs)))
@@ -47,14 +47,14 @@ one_on c xs p m n em en =
     ∙ ap (λ k. option_map (λ tail. take m (c ∷ xs) ++ tail) (unescaped (92 ∷ drop k (c ∷ xs)))) (sym en)
 
 -- up to its first backslash a text stands for itself
-front_is : (text : Bytes) → position_or_len is_backslash text < length text → unescaped text ≡ option_map (λ tail. before_first is_backslash text ++ tail) (unescaped (92 ∷ after_first is_backslash text))
-front_is [] h = absurd (omega arith)
-front_is (c ∷ []) h = by_test (c == 92) h
+prefix_is : (text : Bytes) → position_or_len is_backslash text < length text → unescaped text ≡ option_map (λ tail. before_first is_backslash text ++ tail) (unescaped (92 ∷ after_first is_backslash text))
+prefix_is [] h = absurd (omega arith)
+prefix_is (c ∷ []) h = by_test (c == 92) h
   where
     by_test : (t : Bool) → cond (not t) (1 + 0) 0 < 1 → cond t None (Some (c ∷ [])) ≡ option_map (λ tail. take (cond (not t) (1 + 0) 0) (c ∷ []) ++ tail) (unescaped (92 ∷ drop (cond (not t) (1 + 0) 0 + 1) (c ∷ [])))
     by_test true k = refl
     by_test false k = absurd (omega arith)
-front_is (c ∷ d ∷ text) h = by_test (c == 92) (front_is (d ∷ text)) h
+prefix_is (c ∷ d ∷ text) h = by_test (c == 92) (prefix_is (d ∷ text)) h
   where
     by_test : (t : Bool) → (position_or_len is_backslash (d ∷ text) < length (d ∷ text) → unescaped (d ∷ text) ≡ option_map (λ tail. before_first is_backslash (d ∷ text) ++ tail) (unescaped (92 ∷ after_first is_backslash (d ∷ text)))) →
         cond (not t) (1 + position_or_len is_backslash (d ∷ text)) 0 < length (c ∷ d ∷ text) →
@@ -65,9 +65,9 @@ front_is (c ∷ d ∷ text) h = by_test (c == 92) (front_is (d ∷ text)) h
         ap (option_map (λ rest. c ∷ rest)) (ih (omega arith))
         ∙ one_on c (d ∷ text) (position_or_len is_backslash (d ∷ text)) (1 + position_or_len is_backslash (d ∷ text)) (1 + position_or_len is_backslash (d ∷ text) + 1) (omega arith) (omega arith)
 
--- a letter behind a backslash
-abbrev letter_by : (feed slash : Bool) → Bytes → Option (Bytes × Bytes)
-letter_by feed slash text = if feed then Some (10 ∷ [], text) else (if slash then Some (92 ∷ [], text) else None)
+-- a character behind a backslash
+abbrev character_by : (feed slash : Bool) → Bytes → Option (Bytes × Bytes)
+character_by feed slash text = if feed then Some (10 ∷ [], text) else (if slash then Some (92 ∷ [], text) else None)
 
 abbrev cut_by : Bool → Bytes → Option (Bytes × Bytes)
 cut_by found rest = if found then Some (before_first is_backslash rest, after_first is_backslash rest) else None
@@ -88,31 +88,31 @@ slash_is : (o : Option Bytes) → spelled false true o ≡ option_map (λ tail. 
 slash_is None = refl
 slash_is (Some rest) = refl
 
-letter_is : (behind letter after : Bytes) → letter_at behind ≡ Some (letter, after) → unescaped (92 ∷ behind) ≡ option_map (λ tail. letter ++ tail) (unescaped after)
-letter_is [] letter after h = absurd (none-some _ h)
-letter_is (d ∷ text) letter after h = spelled_is d (unescaped text) ∙ by_tests (d == 110) (d == 92) h
+character_is : (behind character after : Bytes) → character_at behind ≡ Some (character, after) → unescaped (92 ∷ behind) ≡ option_map (λ tail. character ++ tail) (unescaped after)
+character_is [] character after h = absurd (none-some _ h)
+character_is (d ∷ text) character after h = spelled_is d (unescaped text) ∙ by_tests (d == 110) (d == 92) h
   where
-    by_tests : (feed slash : Bool) → letter_by feed slash text ≡ Some (letter, after) → spelled feed slash (unescaped text) ≡ option_map (λ tail. letter ++ tail) (unescaped after)
+    by_tests : (feed slash : Bool) → character_by feed slash text ≡ Some (character, after) → spelled feed slash (unescaped text) ≡ option_map (λ tail. character ++ tail) (unescaped after)
     by_tests true slash k = feed_is slash (unescaped text) ∙ ap (λ (p : Bytes × Bytes). option_map (λ tail. p.0 ++ tail) (unescaped p.1)) (some_same k)
     by_tests false true k = slash_is (unescaped text) ∙ ap (λ (p : Bytes × Bytes). option_map (λ tail. p.0 ++ tail) (unescaped p.1)) (some_same k)
     by_tests false false k = absurd (none-some _ k)
 
-no_letter : (behind : Bytes) → letter_at behind ≡ None → unescaped (92 ∷ behind) ≡ None
-no_letter [] h = refl
-no_letter (d ∷ text) h = spelled_is d (unescaped text) ∙ by_tests (d == 110) (d == 92) (unescaped text) h
+no_character : (behind : Bytes) → character_at behind ≡ None → unescaped (92 ∷ behind) ≡ None
+no_character [] h = refl
+no_character (d ∷ text) h = spelled_is d (unescaped text) ∙ by_tests (d == 110) (d == 92) (unescaped text) h
   where
-    by_tests : (feed slash : Bool) (o : Option Bytes) → letter_by feed slash text ≡ None → spelled feed slash o ≡ None
+    by_tests : (feed slash : Bool) (o : Option Bytes) → character_by feed slash text ≡ None → spelled feed slash o ≡ None
     by_tests true slash o k = absurd (none-some _ (sym k))
     by_tests false true o k = absurd (none-some _ (sym k))
     by_tests false false None k = refl
     by_tests false false (Some x) k = refl
 
--- neither an n nor a backslash stands at the front
-pub no_letter_at : (text : Bytes) → ((rest : Bytes) → text ≢ 110 ∷ rest) → ((rest : Bytes) → text ≢ 92 ∷ rest) → letter_at text ≡ None
-no_letter_at [] no_n no_slash = refl
-no_letter_at (c ∷ text) no_n no_slash = by_tests (c == 110) (c == 92) refl refl
+-- neither an n nor a backslash stands at the prefix
+pub no_character_at : (text : Bytes) → ((rest : Bytes) → text ≢ 110 ∷ rest) → ((rest : Bytes) → text ≢ 92 ∷ rest) → character_at text ≡ None
+no_character_at [] no_n no_slash = refl
+no_character_at (c ∷ text) no_n no_slash = by_tests (c == 110) (c == 92) refl refl
   where
-    by_tests : (feed slash : Bool) → (c == 110) ≡ feed → (c == 92) ≡ slash → letter_by feed slash text ≡ None
+    by_tests : (feed slash : Bool) → (c == 110) ≡ feed → (c == 92) ≡ slash → character_by feed slash text ≡ None
     by_tests true slash e f = absurd (no_n text (ap (λ (d : ℕ). d ∷ text) (grind (arith, nat_tests, e))))
     by_tests false true e f = absurd (no_slash text (ap (λ (d : ℕ). d ∷ text) (grind (arith, nat_tests, f))))
     by_tests false false e f = refl
@@ -125,12 +125,12 @@ cut_none rest h = by_test (nat_lt (position_or_len is_backslash rest) (length re
     by_test true q k = absurd (none-some _ (sym k))
     by_test false q k = grind (arith, nat_tests)
 
-cut_some : (rest front behind : Bytes) → cut_at 92 rest ≡ Some (front, behind) → unescaped rest ≡ option_map (λ tail. front ++ tail) (unescaped (92 ∷ behind))
+cut_some : (rest prefix behind : Bytes) → cut_at 92 rest ≡ Some (prefix, behind) → unescaped rest ≡ option_map (λ tail. prefix ++ tail) (unescaped (92 ∷ behind))
 unfolding cut_at
-cut_some rest front behind h = by_test (nat_lt (position_or_len is_backslash rest) (length rest)) refl h
+cut_some rest prefix behind h = by_test (nat_lt (position_or_len is_backslash rest) (length rest)) refl h
   where
-    by_test : (t : Bool) → nat_lt (position_or_len is_backslash rest) (length rest) ≡ t → cut_by t rest ≡ Some (front, behind) → unescaped rest ≡ option_map (λ tail. front ++ tail) (unescaped (92 ∷ behind))
-    by_test true q k = front_is rest (grind (arith, nat_tests)) ∙ ap (λ (p : Bytes × Bytes). option_map (λ tail. p.0 ++ tail) (unescaped (92 ∷ p.1))) (some_same k)
+    by_test : (t : Bool) → nat_lt (position_or_len is_backslash rest) (length rest) ≡ t → cut_by t rest ≡ Some (prefix, behind) → unescaped rest ≡ option_map (λ tail. prefix ++ tail) (unescaped (92 ∷ behind))
+    by_test true q k = prefix_is rest (grind (arith, nat_tests)) ∙ ap (λ (p : Bytes × Bytes). option_map (λ tail. p.0 ++ tail) (unescaped (92 ∷ p.1))) (some_same k)
     by_test false q k = absurd (none-some _ k)
 
 module _ (made rest : Bytes) (all : Option Bytes) where
@@ -140,16 +140,16 @@ module _ (made rest : Bytes) (all : Option Bytes) where
   pub none_left : So_far → cut_at 92 rest ≡ None → all ≡ Some (made ++ rest)
   none_left so cut = sym so ∙ ap (option_map (λ tail. made ++ tail)) (plain_is rest (cut_none rest cut))
 
-  pub bad_letter : (front behind : Bytes) → So_far → cut_at 92 rest ≡ Some (front, behind) → letter_at behind ≡ None → all ≡ None
-  bad_letter front behind so cut bad =
-      sym so ∙ ap (option_map (λ tail. made ++ tail)) (cut_some rest front behind cut ∙ ap (option_map (λ tail. front ++ tail)) (no_letter behind bad))
+  pub bad_character : (prefix behind : Bytes) → So_far → cut_at 92 rest ≡ Some (prefix, behind) → character_at behind ≡ None → all ≡ None
+  bad_character prefix behind so cut bad =
+      sym so ∙ ap (option_map (λ tail. made ++ tail)) (cut_some rest prefix behind cut ∙ ap (option_map (λ tail. prefix ++ tail)) (no_character behind bad))
 
-  letter_read : (front behind letter after : Bytes) → So_far → cut_at 92 rest ≡ Some (front, behind) → letter_at behind ≡ Some (letter, after) → option_map (λ tail. ((made ++ front) ++ letter) ++ tail) (unescaped after) ≡ all
-  letter_read front behind letter after so cut good =
-      sym (map_twice (made ++ front) letter (unescaped after)) ∙ sym (map_twice made front (option_map (λ tail. letter ++ tail) (unescaped after)))
-      ∙ ap (option_map (λ tail. made ++ tail)) (ap (option_map (λ tail. front ++ tail)) (sym (letter_is behind letter after good)) ∙ sym (cut_some rest front behind cut)) ∙ so
+  character_read : (prefix behind character after : Bytes) → So_far → cut_at 92 rest ≡ Some (prefix, behind) → character_at behind ≡ Some (character, after) → option_map (λ tail. ((made ++ prefix) ++ character) ++ tail) (unescaped after) ≡ all
+  character_read prefix behind character after so cut good =
+      sym (map_twice (made ++ prefix) character (unescaped after)) ∙ sym (map_twice made prefix (option_map (λ tail. character ++ tail) (unescaped after)))
+      ∙ ap (option_map (λ tail. made ++ tail)) (ap (option_map (λ tail. prefix ++ tail)) (sym (character_is behind character after good)) ∙ sym (cut_some rest prefix behind cut)) ∙ so
 
   -- the same where the two are pushed one after another
-  pub letter_pushed : (middle new front behind letter after : Bytes) → So_far → cut_at 92 rest ≡ Some (front, behind) → letter_at behind ≡ Some (letter, after) → middle ≡ made ++ front → new ≡ middle ++ letter → option_map (λ tail. new ++ tail) (unescaped after) ≡ all
-  letter_pushed middle new front behind letter after so cut good first second =
-      ap (λ (xs : Bytes). option_map (λ tail. xs ++ tail) (unescaped after)) (second ∙ ap (λ (xs : Bytes). xs ++ letter) first) ∙ letter_read front behind letter after so cut good
+  pub character_pushed : (middle new prefix behind character after : Bytes) → So_far → cut_at 92 rest ≡ Some (prefix, behind) → character_at behind ≡ Some (character, after) → middle ≡ made ++ prefix → new ≡ middle ++ character → option_map (λ tail. new ++ tail) (unescaped after) ≡ all
+  character_pushed middle new prefix behind character after so cut good first second =
+      ap (λ (xs : Bytes). option_map (λ tail. xs ++ tail) (unescaped after)) (second ∙ ap (λ (xs : Bytes). xs ++ character) first) ∙ character_read prefix behind character after so cut good

@@ -7,7 +7,7 @@ use Rattle.std.proofs.lemmas.Option.{none-some}
 use Rattle.drill_script.specs.declared.script.ScriptLine.{ScriptLine}
 use Rattle.drill_script.specs.declared.script.ScriptLine.TheVariants.{Apply, Edit, View, End}
 use Rattle.drill_script.specs.Script.{parts, is_end, is_last, onto, after_line, read_parts, line_of}
-use Rattle.drill_script.specs.Lines.{with_front}
+use Rattle.drill_script.specs.Lines.{with_prefix}
 
 -- there is always a part
 some_part : (bytes : List ℕ) → (p : List ℕ) × (ps : List (List ℕ)) × (parts bytes ≡ p ∷ ps)
@@ -41,9 +41,9 @@ unfolding read_parts
 read_parts-last n part = refl
 
 -- one more line in front
-pub with_front-onto : (front : List ScriptLine) (line : ScriptLine) (read : Result (List ScriptLine) ℕ) → with_front front (onto line read) ≡ with_front (front ++ line ∷ []) read
-with_front-onto front line (Ok lines) = ap Ok (sym (append_assoc front (line ∷ []) lines))
-with_front-onto front line (Err n) = refl
+pub with_prefix-onto : (prefix : List ScriptLine) (line : ScriptLine) (read : Result (List ScriptLine) ℕ) → with_prefix prefix (onto line read) ≡ with_prefix (prefix ++ line ∷ []) read
+with_prefix-onto prefix line (Ok lines) = ap Ok (sym (append_assoc prefix (line ∷ []) lines))
+with_prefix-onto prefix line (Err n) = refl
 
 abbrev is_feed : ℕ → Bool
 is_feed b = b == 10
@@ -84,30 +84,30 @@ after_line-is n (Edit ask) last rest = refl
 after_line-is n (View ask) last rest = refl
 after_line-is n End last rest = refl
 
-module _ (front : List ScriptLine) (n : ℕ) (whole line rest : List ℕ) (all : Result (List ScriptLine) ℕ) where
+module _ (prefix : List ScriptLine) (n : ℕ) (whole line rest : List ℕ) (all : Result (List ScriptLine) ℕ) where
   -- what the lines so far and the rest read as
   abbrev pub So_far : Type 0
-  So_far = with_front front (read_parts n (parts whole)) ≡ all
+  So_far = with_prefix prefix (read_parts n (parts whole)) ≡ all
 
-  cut_is : (said : Option ScriptLine) → So_far → parts whole ≡ line ∷ parts rest → line_of line ≡ said → with_front front (after_line n said (length rest == 0) (read_parts (n + 1) (parts rest))) ≡ all
-  cut_is said so cut is = ap (λ s. with_front front (after_line n s (length rest == 0) (read_parts (n + 1) (parts rest)))) (sym is) ∙ ap (with_front front) (sym (read_parts-line n line rest)) ∙ ap (λ ps. with_front front (read_parts n ps)) (sym cut) ∙ so
+  cut_is : (said : Option ScriptLine) → So_far → parts whole ≡ line ∷ parts rest → line_of line ≡ said → with_prefix prefix (after_line n said (length rest == 0) (read_parts (n + 1) (parts rest))) ≡ all
+  cut_is said so cut is = ap (λ s. with_prefix prefix (after_line n s (length rest == 0) (read_parts (n + 1) (parts rest)))) (sym is) ∙ ap (with_prefix prefix) (sym (read_parts-line n line rest)) ∙ ap (λ ps. with_prefix prefix (read_parts n ps)) (sym cut) ∙ so
 
   pub line_faulty : So_far → parts whole ≡ line ∷ parts rest → line_of line ≡ None → all ≡ Err n
   line_faulty so cut is = sym (cut_is None so cut is)
 
-  said_is : (l : ScriptLine) (b : Bool) → So_far → parts whole ≡ line ∷ parts rest → line_of line ≡ Some l → is_last l ≡ b → with_front front (cond b (cond (length rest == 0) (Ok (l ∷ [])) (Err (n + 1))) (onto l (read_parts (n + 1) (parts rest)))) ≡ all
+  said_is : (l : ScriptLine) (b : Bool) → So_far → parts whole ≡ line ∷ parts rest → line_of line ≡ Some l → is_last l ≡ b → with_prefix prefix (cond b (cond (length rest == 0) (Ok (l ∷ [])) (Err (n + 1))) (onto l (read_parts (n + 1) (parts rest)))) ≡ all
   said_is l b so cut is last =
-      ap (λ t. with_front front (cond t (cond (length rest == 0) (Ok (l ∷ [])) (Err (n + 1))) (onto l (read_parts (n + 1) (parts rest))))) (sym last)
-      ∙ ap (with_front front) (sym (after_line-is n l (length rest == 0) (read_parts (n + 1) (parts rest)))) ∙ cut_is (Some l) so cut is
+      ap (λ t. with_prefix prefix (cond t (cond (length rest == 0) (Ok (l ∷ [])) (Err (n + 1))) (onto l (read_parts (n + 1) (parts rest))))) (sym last)
+      ∙ ap (with_prefix prefix) (sym (after_line-is n l (length rest == 0) (read_parts (n + 1) (parts rest)))) ∙ cut_is (Some l) so cut is
 
-  pub line_said : (l : ScriptLine) → So_far → parts whole ≡ line ∷ parts rest → line_of line ≡ Some l → is_last l ≡ false → with_front (front ++ l ∷ []) (read_parts (n + 1) (parts rest)) ≡ all
-  line_said l so cut is last = sym (with_front-onto front l (read_parts (n + 1) (parts rest))) ∙ said_is l false so cut is last
+  pub line_said : (l : ScriptLine) → So_far → parts whole ≡ line ∷ parts rest → line_of line ≡ Some l → is_last l ≡ false → with_prefix (prefix ++ l ∷ []) (read_parts (n + 1) (parts rest)) ≡ all
+  line_said l so cut is last = sym (with_prefix-onto prefix l (read_parts (n + 1) (parts rest))) ∙ said_is l false so cut is last
 
-  pub line_ends : (l : ScriptLine) → So_far → parts whole ≡ line ∷ parts rest → line_of line ≡ Some l → is_last l ≡ true → (length rest == 0) ≡ true → all ≡ Ok (front ++ l ∷ [])
-  line_ends l so cut is last empty = sym (ap (λ b. with_front front (cond b (Ok (l ∷ [])) (Err (n + 1)))) (sym empty) ∙ said_is l true so cut is last)
+  pub line_ends : (l : ScriptLine) → So_far → parts whole ≡ line ∷ parts rest → line_of line ≡ Some l → is_last l ≡ true → (length rest == 0) ≡ true → all ≡ Ok (prefix ++ l ∷ [])
+  line_ends l so cut is last empty = sym (ap (λ b. with_prefix prefix (cond b (Ok (l ∷ [])) (Err (n + 1)))) (sym empty) ∙ said_is l true so cut is last)
 
   pub line_left : (l : ScriptLine) → So_far → parts whole ≡ line ∷ parts rest → line_of line ≡ Some l → is_last l ≡ true → (length rest == 0) ≡ false → all ≡ Err (n + 1)
-  line_left l so cut is last more = sym (ap (λ b. with_front front (cond b (Ok (l ∷ [])) (Err (n + 1)))) (sym more) ∙ said_is l true so cut is last)
+  line_left l so cut is last more = sym (ap (λ b. with_prefix prefix (cond b (Ok (l ∷ [])) (Err (n + 1)))) (sym more) ∙ said_is l true so cut is last)
 
   pub line_missing : So_far → parts whole ≡ whole ∷ [] → all ≡ Err n
-  line_missing so cut = sym (ap (with_front front) (sym (read_parts-last n whole)) ∙ ap (λ ps. with_front front (read_parts n ps)) (sym cut) ∙ so)
+  line_missing so cut = sym (ap (with_prefix prefix) (sym (read_parts-last n whole)) ∙ ap (λ ps. with_prefix prefix (read_parts n ps)) (sym cut) ∙ so)

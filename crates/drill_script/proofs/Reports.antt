@@ -3,7 +3,7 @@ use Rattle.std.proofs.Common.{◌≡◌, ℕ, false, List, [], ◌∷◌, ◌++�
 use Rattle.std.specs.Prelude.{codes, decimal, IfOk, string_bytes, String}
 use Rattle.wiki_model.specs.Bytes.{Bytes}
 use Rattle.wiki_model.specs.Report.{answer_text, end_line}
-use Rattle.farm_core.specs.Shown.{answer_of}
+use Rattle.farm_core.specs.AsModel.{answer_of}
 use Rattle.farm_core.specs.declared.answer.Answer.{Answer}
 use Rattle.farm_core.specs.declared.answer.Answer.TheVariants as answers
 use Rattle.drill_script.specs.Texts.{text_of, end_text}

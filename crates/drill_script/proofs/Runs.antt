@@ -1,6 +1,6 @@
 -- A run goes on by one line.
 use Rattle.std.proofs.Common.{List, [], ◌∷◌, ◌++◌, Option, refl, subst}
-use Rattle.farm_core.specs.Shown.{World}
+use Rattle.farm_core.specs.AsModel.{World}
 use Rattle.farm_core.specs.declared.answer.Answer.{Answer}
 use Rattle.drill_script.specs.declared.script.ScriptLine.{ScriptLine}
 use Rattle.drill_script.specs.Runs.{Happens, Run}

@@ -12,9 +12,9 @@ Reads view (Err (faults.Line n)) read = read ≡ Err n
 Reads view (Err faults.Memory) read = Unit {0}
 
 -- lines in front of those that were read
-abbrev pub with_front : List ScriptLine → Result (List ScriptLine) ℕ → Result (List ScriptLine) ℕ
-with_front front (Ok lines) = Ok (front ++ lines)
-with_front front (Err n) = Err n
+abbrev pub with_prefix : List ScriptLine → Result (List ScriptLine) ℕ → Result (List ScriptLine) ℕ
+with_prefix prefix (Ok lines) = Ok (prefix ++ lines)
+with_prefix prefix (Err n) = Err n
 
 -- what line n says, or that it is outside the grammar
 abbrev pub SaysAt : ℕ → Result ScriptLine ScriptFault → Option ScriptLine → Type 0

@@ -46,10 +46,10 @@ title_in word = ok_of (title_of word)
 abbrev pub token_in : Bytes → Option Token
 token_in word = if is_token word then Some word else None
 
--- behind a backslash: the letter that it spells, and what stands behind that
-abbrev pub letter_at : Bytes → Option (Bytes × Bytes)
-letter_at [] = None
-letter_at (c ∷ text) = if c == 110 then Some (10 ∷ [], text) else (if c == 92 then Some (92 ∷ [], text) else None)
+-- behind a backslash: the character that it spells, and what stands behind that
+abbrev pub character_at : Bytes → Option (Bytes × Bytes)
+character_at [] = None
+character_at (c ∷ text) = if c == 110 then Some (10 ∷ [], text) else (if c == 92 then Some (92 ∷ [], text) else None)
 
 -- a text with line feeds at the ends of its lines has at most 65,536 bytes
 abbrev pub short_text : Bytes → Option Text

@@ -3,7 +3,7 @@
 use Rattle.std.specs.Prelude.{ℕ, ◌+◌, true, List, [], ◌∷◌, ◌++◌, Option, None, Some, count_by, is_some}
 use Rattle.wiki_model.specs.Bytes.{Bytes}
 use Rattle.wiki_model.specs.Report.{report_line, end_line}
-use Rattle.farm_core.specs.Shown.{answer_of}
+use Rattle.farm_core.specs.AsModel.{answer_of}
 use Rattle.farm_core.specs.declared.answer.Answer.{Answer}
 
 -- the lines of an answer, where there is one

@@ -1,7 +1,7 @@
 -- Runs of a script from an empty farm: each line makes its step, and gives the step's answer.
 -- A line gives at most one answer; `apply` and `end` give none.
 use Rattle.std.specs.Prelude.{◌≡◌, ◌+◌, min, List, [], ◌∷◌, length, Option, None, Some}
-use Rattle.farm_core.specs.Shown.{World, edit_of, answer_of}
+use Rattle.farm_core.specs.AsModel.{World, edit_of, answer_of}
 use Rattle.farm_core.specs.Steps.{Edits, Views}
 use Rattle.farm_core.specs.declared.answer.Answer.{Answer}
 use Rattle.drill_script.specs.declared.script.ScriptLine.{ScriptLine}

@@ -104,8 +104,8 @@ pub fn read_script(alloc: Global, bytes: &[u8]) -> Result<Vec<ScriptLine>, Scrip
     if bytes.len() <= SCRIPT_MAX {
         return read_lines(alloc, bytes);
     }
-    let (front, _) = bytes.split_at(SCRIPT_MAX);
-    let lines = read_lines(alloc, front)?;
+    let (prefix, _) = bytes.split_at(SCRIPT_MAX);
+    let lines = read_lines(alloc, prefix)?;
     Err(ScriptFault::Line {
         line: lines.len() as u64 + 1,
     })

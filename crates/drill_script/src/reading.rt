@@ -4,7 +4,7 @@ ghost use Rattle.std.specs.List.{list_all};
 ghost use Rattle.std.specs.String.{string_bytes};
 ghost use Rattle.wiki_model.specs.Script.{unescaped};
 ghost use Rattle.wiki_model.specs.Titles.{is_digit};
-ghost use Rattle.drill_script.specs.Reading.{Gives, cut_at, word_at, number_of, is_number, title_in, token_in, letter_at, short_text, text_in, utf8_of};
+ghost use Rattle.drill_script.specs.Reading.{Gives, cut_at, word_at, number_of, is_number, title_in, token_in, character_at, short_text, text_in, utf8_of};
 
 use std::alloc::{AllocError, Global};
 use std::str;
@@ -89,9 +89,9 @@ pub fn token_of(alloc: Global, word: &str) -> Result<Token, ReadFault>
     }
 }
 
-/// The letter that a backslash before the text spells, and what stands behind it.
-fn letter_at(text: &str) -> Option<(&str, &str)>
-    ensures letter { MatchOption result (letter_at text.now ≡ None) (λ x. letter_at text.now ≡ Some (x.0.now, x.1.now)) }
+/// The character that a backslash before the text spells, and what stands behind it.
+fn character_at(text: &str) -> Option<(&str, &str)>
+    ensures character { MatchOption result (character_at text.now ≡ None) (λ x. character_at text.now ≡ Some (x.0.now, x.1.now)) }
     ensures shorter { IfSome result (λ x. length x.1.now < length text.now) }
 {
     if let Some(rest) = text.strip_prefix('n') {
@@ -119,12 +119,12 @@ fn unescaped(alloc: Global, word: &str) -> Result<String, ReadFault>
 {
     let mut plain = String::new(alloc);
     let mut rest = word;
-    while let Some((front, behind)) = backslash_at(rest) {
-        let Some((letter, after)) = letter_at(behind) else {
+    while let Some((prefix, behind)) = backslash_at(rest) {
+        let Some((character, after)) = character_at(behind) else {
             return Err(ReadFault::Form);
         };
-        plain.push_str(front)?;
-        plain.push_str(letter)?;
+        plain.push_str(prefix)?;
+        plain.push_str(character)?;
         rest = after;
     }
     plain.push_str(rest)?;

@@ -1,7 +1,7 @@
 // The report of a run.
 ghost use Rattle.std.specs.Prelude.{◌≡◌, ◌++◌, ◌∷◌, ℕ, false, true, length, IfOk, OnOk, codes, count_by, decimal, is_some, string_bytes};
 ghost use Rattle.wiki_model.specs.Report.{answer_text, page_of, report_line, end_line};
-ghost use Rattle.farm_core.specs.Shown.{answer_of};
+ghost use Rattle.farm_core.specs.AsModel.{answer_of};
 ghost use Rattle.farm_core.specs.declared.answer.Answer.TheVariants.{NoPage, Token};
 ghost use Rattle.drill_script.specs.Texts.{page_text, saved_text, conflict_text, text_of, end_text};
 ghost use Rattle.drill_script.specs.Report.{report_from, report};

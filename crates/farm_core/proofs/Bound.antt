@@ -1,4 +1,4 @@
--- The pages of a front, bound by its entries from the last to the first.
+-- The pages of a prefix, bound by its entries from the last to the first.
 use Rattle.std.proofs.Common.{◌≡◌, ℕ, zero, suc, ◌<◌, ◌≤◌, ◌-◌, Bool, true, false, cond, List, [], ◌∷◌, ◌++◌, length, take, Option, None, Some, Result, Ok, Err, refl, sym, ap, subst, ◌∙◌, arith}
 use Rattle.std.specs.Prelude.{option_map, bytes_eq, IfOk}
 use Rattle.wiki_model.specs.Bytes.{Bytes, last_of}
@@ -7,7 +7,7 @@ use Rattle.wiki_model.specs.History.{Entry, Beat, Committed, Numbered, commits_o
 use Rattle.wiki_model.specs.Html.{Templates, or_else, notice_title, page_html, html_of_text}
 use Rattle.wiki_model.proofs.HistoryLaws.{on-push_beat, on-push_same, on-push_other}
 use Rattle.wiki_model.proofs.HistoryGrowth.{take-snoc}
-use Rattle.page_render.specs.Use.{template_text}
+use Rattle.page_render.specs.AsModel.{template_text}
 use Rattle.farm_core.specs.Pages.{bound_by, ArePages}
 use Rattle.farm_core.specs.Steps.{markup}
 
@@ -46,7 +46,7 @@ page_pushed h (Committed c) title = by (bytes_eq c.edit.title title) refl
 page_step : (h : List Entry) (j : ℕ) (title : Title) → j < length h → page_text h (suc j) title ≡ or_else (template_text (bound_by (entry_at h (suc j))) title) (page_text h j title)
 page_step h j title within =
     let last = take-snoc h j within in
-    ap (λ front. option_map (λ (n : Numbered). n.commit.edit.text) (last_of (commits_on front title))) last.2
+    ap (λ prefix. option_map (λ (n : Numbered). n.commit.edit.text) (last_of (commits_on prefix title))) last.2
     ∙ page_pushed (take j h) last.0 title
     ∙ ap (λ e. or_else (template_text (bound_by e) title) (page_text h j title)) (sym last.1)
 
@@ -74,7 +74,7 @@ pages_end h (suc j) k pages none bound title = let no : ⊥ = omega (arith, none
 pub notice_named : (title : Title) → title_of notice_title ≡ Ok title → title ≡ notice_title
 notice_named title is = let known : title_of notice_title ≡ Ok notice_title = refl in cc
 
--- a page with these templates and this notice is that of the front
+-- a page with these templates and this notice is that of the prefix
 pub page_is : (h : List Entry) (k : ℕ) (title : Title) (text : Text) (pages : List (Title × Text)) (name : Title) (notice : Option Text) → ArePages h k pages → name ≡ notice_title → notice ≡ page_text h k name →
     page_html markup title text (template_text pages) notice ≡ html_of_text h k title markup text
 page_is h k title text pages name notice are named is =
@@ -82,7 +82,7 @@ page_is h k title text pages name notice are named is =
     ap (λ (templates : Templates). page_html markup title text templates notice) same
     ∙ ap (page_html markup title text (page_text h k)) (is ∙ ap (page_text h k) named)
 
--- what was rendered from them is the page of the front
+-- what was rendered from them is the page of the prefix
 pub rendered : {E : Type 0} (result : Result Bytes E) (h : List Entry) (k : ℕ) (title : Title) (text : Text) (pages : List (Title × Text)) (name : Title) (notice : Option Text) →
     ArePages h k pages → name ≡ notice_title → notice ≡ page_text h k name →
     IfOk result (λ page. page ≡ page_html markup title text (template_text pages) notice) → IfOk result (λ page. page ≡ html_of_text h k title markup text)

@@ -1,4 +1,4 @@
-pub mod Shown
+pub mod AsModel
 pub mod Kept
 pub mod Decided
 pub mod Steps

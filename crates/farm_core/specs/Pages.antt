@@ -1,9 +1,9 @@
--- The pages of a front of the history, as they are handed to rendering.
--- A title's page is its first binding in the list, which is its last commit in the front.
+-- The pages of a prefix of the history, as they are handed to rendering.
+-- A title's page is its first binding in the list, which is its last commit in the prefix.
 use Rattle.std.specs.Prelude.{◌≡◌, ℕ, List, [], ◌∷◌, Option, None, Some}
 use Rattle.wiki_model.specs.Titles.{Title, Text}
 use Rattle.wiki_model.specs.History.{Entry, Beat, Committed, page_text}
-use Rattle.page_render.specs.Use.{template_text}
+use Rattle.page_render.specs.AsModel.{template_text}
 
 -- what an entry binds
 abbrev pub bound_by : Option Entry → List (Title × Text)

@@ -7,7 +7,7 @@ use Rattle.wiki_model.specs.Titles.{Title}
 use Rattle.wiki_model.specs.History.{Entry, Committed, Commit, Edit, commit_for}
 use Rattle.wiki_model.specs.Html.{html}
 use Rattle.wiki_model.specs.Answers.{Answer, Page, EditSaved, NoPage, NoMemory, edit_answer, saved}
-use Rattle.farm_core.specs.Shown.{World}
+use Rattle.farm_core.specs.AsModel.{World}
 
 -- the commit that an edit makes at moment 0, under no purge
 abbrev pub next_commit : List Entry → Edit → Commit

@@ -3,8 +3,8 @@ ghost use Rattle.std.specs.Prelude.{◌≡◌, ℕ, ◌+◌, ◌<◌, ◌≤◌,
 ghost use Rattle.std.specs.Option.{option_copied};
 ghost use Rattle.wiki_model.specs.History.{Committed, current_revision, page_text, entry_at, stamp_at};
 ghost use Rattle.wiki_model.specs.Answers.{edit_answer, saved};
-ghost use Rattle.commit_feed.specs.Shown.{entry_of};
-ghost use Rattle.farm_core.specs.Shown.{edit_of, saved_of, answer_of};
+ghost use Rattle.commit_feed.specs.AsModel.{entry_of};
+ghost use Rattle.farm_core.specs.AsModel.{edit_of, saved_of, answer_of};
 ghost use Rattle.farm_core.specs.Decided.{repeated_at, revision_in, text_in};
 ghost use Rattle.farm_core.specs.Steps.{next_commit};
 

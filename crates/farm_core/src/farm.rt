@@ -16,7 +16,7 @@ pub struct Farm {
 }
 
 impl Model for Farm {
-    ghost use Rattle.farm_core.specs.Shown.{World};
+    ghost use Rattle.farm_core.specs.AsModel.{World};
     ghost use Rattle.farm_core.specs.Kept.{IsKept};
 
     ghost Value = { World };
@@ -27,7 +27,7 @@ impl Model for Farm {
 }
 
 ghost use Rattle.std.specs.Prelude.{◌≡◌, ◌≤◌, length};
-ghost use Rattle.farm_core.specs.Shown.{answer_of};
+ghost use Rattle.farm_core.specs.AsModel.{answer_of};
 ghost use Rattle.farm_core.specs.Steps.{Views};
 
 // The page of a title as the first `source` entries have it.
@@ -50,7 +50,7 @@ fn view_at(alloc: Global, feed: &Feed, source: u64, title: Title) -> Answer
 
 impl Farm {
     ghost use Rattle.std.specs.Prelude.{◌≡◌, ◌+◌, [], length, min};
-    ghost use Rattle.farm_core.specs.Shown.{World, edit_of, answer_of};
+    ghost use Rattle.farm_core.specs.AsModel.{World, edit_of, answer_of};
     ghost use Rattle.farm_core.specs.Steps.{Edits, Views};
 
     /// A farm with an empty history. It takes no memory.

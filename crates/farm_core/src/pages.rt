@@ -1,8 +1,8 @@
-// The page of a title as a front of the history has it: its text, with the templates and the notice of that front.
+// The page of a title as a prefix of the history has it: its text, with the templates and the notice of that prefix.
 ghost use Rattle.std.specs.Prelude.{◌≡◌, ◌≤◌, ◌++◌, ◌∷◌, [], ℕ, Some, length, IfOk, OnOk};
 ghost use Rattle.wiki_model.specs.History.{entry_at};
 ghost use Rattle.wiki_model.specs.Html.{html_of_text, notice_title};
-ghost use Rattle.commit_feed.specs.Shown.{entry_of};
+ghost use Rattle.commit_feed.specs.AsModel.{entry_of};
 ghost use Rattle.farm_core.specs.Pages.{bound_by, ArePages};
 ghost use Rattle.farm_core.specs.Steps.{markup};
 

@@ -2,7 +2,7 @@
 use Rattle.std.proofs.Common.{◌≡◌, ℕ, ◌⊎◌, List, Option, None, Some, Result, Ok, Err, refl, inl, inr}
 use Rattle.std.specs.Prelude.{IsOk, IfSome}
 use Rattle.std.proofs.lemmas.Bool.{false≢true}
-use Rattle.wiki_cli.specs.Ends.{IsTold}
+use Rattle.wiki_cli.specs.Ends.{IsExposed}
 use Rattle.wiki_cli.specs.declared.status.Status.{Status}
 use Rattle.wiki_cli.specs.declared.status.Status.TheVariants as statuses
 
@@ -14,8 +14,8 @@ ends_well statuses.ReadFault u l r w = absurd (r refl)
 ends_well statuses.WriteFault u l r w = absurd (w refl)
 ends_well statuses.Memory u l r w = inr refl
 
--- what is told to be read is not refused
-pub not_refused : {A : Type 0} (told : Option (List ℕ)) (read : List ℕ → Result A ℕ) (n : ℕ) → IsTold told (λ bytes. IsOk (read bytes)) → IfSome told (λ bytes. read bytes ≡ Err n) → ⊥
+-- what is exposed to be read is not refused
+pub not_refused : {A : Type 0} (exposed : Option (List ℕ)) (read : List ℕ → Result A ℕ) (n : ℕ) → IsExposed exposed (λ bytes. IsOk (read bytes)) → IfSome exposed (λ bytes. read bytes ≡ Err n) → ⊥
 not_refused None read n h e = h
 not_refused {A = A} (Some bytes) read n h e = by_read (read bytes) h e
   where

@@ -1,9 +1,9 @@
 -- How the program ends: its exit status, and what stands in the sink at each end.
--- A sink that tells its bytes at the return tells what is said here; one that has fallen silent tells nothing.
+-- A sink that exposes its bytes at the return has what is said here; one that has fallen silent exposes nothing.
 use Rattle.std.specs.Prelude.{◌≡◌, ℕ, ◌⊎◌, List, length, Option, None, Some, Result, Ok, Err}
 use Rattle.wiki_model.specs.Bytes.{Bytes}
-use Rattle.farm_base.specs.Told.{Adds, AddsFront, Stays}
-use Rattle.farm_core.specs.Shown.{World}
+use Rattle.farm_base.specs.Exposed.{Adds, AddsPrefix, Stays}
+use Rattle.farm_core.specs.AsModel.{World}
 use Rattle.farm_core.specs.declared.answer.Answer.{Answer}
 use Rattle.drill_script.specs.declared.script.ScriptLine.{ScriptLine}
 use Rattle.drill_script.specs.Runs.{Run, empty}
@@ -20,11 +20,11 @@ exit_number status.ReadFault = 4
 exit_number status.WriteFault = 5
 exit_number status.Memory = 7
 
--- the text is written, or where a write failed a front of it
+-- the text is written, or a prefix of it if a write failed
 abbrev pub IsWritten : (failed : Type 0) → (old new : Option Bytes) → (text : Bytes) → Type 0
-IsWritten failed old new text = Adds old new text ⊎ (failed × AddsFront old new text)
+IsWritten failed old new text = Adds old new text ⊎ (failed × AddsPrefix old new text)
 
--- a refusal writes its own line, and want of memory nothing
+-- a refusal writes its own line, and running out of memory nothing
 abbrev pub Says : (failed : Type 0) → (old new : Option Bytes) → Status → Type 0
 Says failed old new status.Ok = Unit {0}
 Says failed old new status.Usage = IsWritten failed old new usage_line
@@ -37,16 +37,16 @@ Says failed old new status.Memory = Stays old new
 abbrev pub IsReportOf : List ScriptLine → (text : Bytes) → Type 0
 IsReportOf lines text = (given : List (Option Answer)) × (end : World) × Run empty lines given end × (text ≡ report given (length end.history))
 
--- what the bytes read as, and what was written of the report; all steps are made also where a write fails
+-- what the bytes read as, and what was written of the report; all steps are made also if a write fails
 abbrev pub Drills : (read : Result (List ScriptLine) ℕ) → (old new : Option Bytes) → Status → Type 0
 Drills read old new status.Ok = (lines : List ScriptLine) × (text : Bytes) × (read ≡ Ok lines) × IsReportOf lines text × Adds old new text
-Drills read old new status.WriteFault = (lines : List ScriptLine) × (text : Bytes) × (read ≡ Ok lines) × IsReportOf lines text × AddsFront old new text
+Drills read old new status.WriteFault = (lines : List ScriptLine) × (text : Bytes) × (read ≡ Ok lines) × IsReportOf lines text × AddsPrefix old new text
 Drills read old new (status.Script n) = read ≡ Err n
 Drills read old new status.Usage = Unit {0}
 Drills read old new status.ReadFault = Unit {0}
 Drills read old new status.Memory = Unit {0}
 
--- the bytes are told, and have the property
-abbrev pub IsTold : Option Bytes → (Bytes → Type 0) → Type 0
-IsTold None P = ⊥
-IsTold (Some bytes) P = P bytes
+-- the bytes are exposed, and have the property
+abbrev pub IsExposed : Option Bytes → (Bytes → Type 0) → Type 0
+IsExposed None P = ⊥
+IsExposed (Some bytes) P = P bytes

@@ -2,7 +2,7 @@
 ghost use Rattle.std.specs.Prelude.{◌<◌, ◌≤◌, length, None, IfOk};
 ghost use Rattle.std.specs.Io.KnownBytes.{WriteAppends};
 ghost use Rattle.farm_base.specs.Causes.{HasCause};
-ghost use Rattle.farm_base.specs.Told.{WriteAdds};
+ghost use Rattle.farm_base.specs.Exposed.{WriteAdds};
 
 use farm_base::{OutFault, Sink, Source};
 use std::io::{Read, Write};

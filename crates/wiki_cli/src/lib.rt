@@ -7,7 +7,9 @@ mod command;
 mod drill;
 mod status;
 mod top;
+mod words;
 
 pub use adapters::{Reading, Writing};
 pub use status::Status;
 pub use top::{Outside, run};
+pub use words::refuse_words;

@@ -4,8 +4,8 @@ ghost use Rattle.std.specs.Io.KnownBytes.{IsAtEnd};
 ghost use Rattle.wiki_model.specs.Steps.{Rose};
 ghost use Rattle.drill_script.specs.Script.{script_read};
 ghost use Rattle.wiki_cli.specs.Command.{is_command};
-ghost use Rattle.wiki_cli.specs.Ends.{Says, Drills, IsTold};
-ghost use Rattle.wiki_cli.specs.declared.status.Status.TheVariants.{Ok as Done, Usage, ReadFault, WriteFault, Memory as WantOfMemory};
+ghost use Rattle.wiki_cli.specs.Ends.{Says, Drills, IsExposed};
+ghost use Rattle.wiki_cli.specs.declared.status.Status.TheVariants.{Ok as Done, Usage, ReadFault, WriteFault, Memory as OutOfMemory};
 
 use crate::Status;
 use crate::command::{USAGE, is_command};
@@ -28,8 +28,10 @@ fn run_words<I: Source + Drop, O: Sink + Drop>(
     outside: &mut Outside<I, O>,
 ) -> Status
     ensures words { (result ≡ Usage) ↔ (is_command words.now ≡ false) }
-    ensures says { Says (Rose (O.faults outside.old.sink) (O.faults outside.new.sink)) (O.written outside.old.sink) (O.written outside.new.sink) result }
-    ensures drill { IfSome (I.left outside.old.source) (λ input. Drills (script_read input) (O.written outside.old.sink) (O.written outside.new.sink) result) }
+    ensures says { Says (Rose (O.faults outside.old.sink) (O.faults outside.new.sink))
+        (O.written outside.old.sink) (O.written outside.new.sink) result }
+    ensures drill { IfSome (I.left outside.old.source) (λ input.
+        Drills (script_read input) (O.written outside.old.sink) (O.written outside.new.sink) result) }
     ensures read_out { result ≡ Done → IsAtEnd (I.left outside.new.source) }
     ensures read { result ≡ ReadFault → Rose (I.faults outside.old.source) (I.faults outside.new.source) }
     ensures write { result ≡ WriteFault → Rose (O.faults outside.old.sink) (O.faults outside.new.sink) }
@@ -53,24 +55,28 @@ pub fn run<I: Source + Drop, O: Sink + Drop>(
     words: &[String],
     outside: &mut Outside<I, O>,
 ) -> Status
-    // The words are refused exactly where they are no command.
+    // The words are refused exactly if they are no command.
     ensures words { (result ≡ Usage) ↔ (is_command words.now ≡ false) }
 
-    // A refusal writes its own line, or a front of it where a write failed.
-    ensures says { Says (Rose (O.faults outside.old.sink) (O.faults outside.new.sink)) (O.written outside.old.sink) (O.written outside.new.sink) result }
+    // A refusal writes its own line, or a prefix of it if a write failed.
+    ensures says { Says (Rose (O.faults outside.old.sink) (O.faults outside.new.sink))
+        (O.written outside.old.sink) (O.written outside.new.sink) result }
 
     // A script is refused by its first line outside the grammar. Otherwise the bytes read are a script, and
-    // what is written is the report of a run of its steps, or a front of it where a write failed.
-    ensures drill { IfSome (I.left outside.old.source) (λ input. Drills (script_read input) (O.written outside.old.sink) (O.written outside.new.sink) result) }
+    // what is written is the report of a run of its steps, or a prefix of it if a write failed.
+    ensures drill { IfSome (I.left outside.old.source) (λ input.
+        Drills (script_read input) (O.written outside.old.sink) (O.written outside.new.sink) result) }
 
     ensures read_out { result ≡ Done → IsAtEnd (I.left outside.new.source) }
     ensures read { result ≡ ReadFault → Rose (I.faults outside.old.source) (I.faults outside.new.source) }
     ensures write { result ≡ WriteFault → Rose (O.faults outside.old.sink) (O.faults outside.new.sink) }
 
-    // Where nothing fails, a script is run and its report written, unless memory runs out.
-    ensures complete { is_command words.now ≡ true → IsTold (I.left outside.old.source) (λ input. IsOk (script_read input))
-        → ¬ (Rose (I.faults outside.old.source) (I.faults outside.new.source)) → ¬ (Rose (O.faults outside.old.sink) (O.faults outside.new.sink))
-        → (result ≡ Done) ⊎ (result ≡ WantOfMemory) }
+    // If nothing fails, a script is run and its report written, unless memory runs out.
+    ensures complete { is_command words.now ≡ true
+        → IsExposed (I.left outside.old.source) (λ input. IsOk (script_read input))
+        → ¬ (Rose (I.faults outside.old.source) (I.faults outside.new.source))
+        → ¬ (Rose (O.faults outside.old.sink) (O.faults outside.new.sink))
+        → (result ≡ Done) ⊎ (result ≡ OutOfMemory) }
 {
     run_words(alloc, words, outside)
 }

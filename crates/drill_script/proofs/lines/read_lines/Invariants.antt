@@ -1,11 +1,11 @@
 use Rattle.std.proofs.Common.{◌≡◌, ◌+◌, ◌≤◌, length}
 use Rattle.drill_script.specs.Script.{parts, read_parts, script_of}
-use Rattle.drill_script.specs.Lines.{with_front}
+use Rattle.drill_script.specs.Lines.{with_prefix}
 use Rattle.drill_script.proofs.lines.read_lines.Given as goal
 
 abbrev pub invariant-loop-line : goal.invariant-loop-line
 invariant-loop-line l = record {
-  said : with_front l.lines.items (read_parts l.n (parts l.rest)) ≡ script_of l.bytes;
+  said : with_prefix l.lines.items (read_parts l.n (parts l.rest)) ≡ script_of l.bytes;
   few : l.n + length l.rest ≤ length l.bytes + 1;
 }
 

@@ -1,6 +1,6 @@
 use Rattle.std.proofs.Common.{false}
 use Rattle.wiki_model.specs.Report.{answer_text}
-use Rattle.farm_core.specs.Shown.{answer_of}
+use Rattle.farm_core.specs.AsModel.{answer_of}
 use Rattle.drill_script.specs.Texts.{text_of}
 use Rattle.drill_script.proofs.Reports.{string_is, text_is}
 use Rattle.drill_script.proofs.report_text.answer_text.Goals as goal

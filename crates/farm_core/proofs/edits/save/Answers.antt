@@ -1,6 +1,6 @@
 use Rattle.std.proofs.Common.{arith}
 use Rattle.commit_feed.proofs.Found.{few_by}
-use Rattle.farm_core.specs.Shown.{edit_of}
+use Rattle.farm_core.specs.AsModel.{edit_of}
 use Rattle.farm_core.proofs.Found.{small_base, commit_follows}
 use Rattle.farm_core.proofs.edits.save.Goals as goal
 

@@ -4,12 +4,12 @@ use Rattle.std.proofs.lemmas.List.{append-nil, take-append-le}
 use Rattle.std.proofs.lemmas.Bool.Decides.{nat_tests}
 use Rattle.std.specs.Prelude.{IfSome, IsOk}
 use Rattle.std.specs.Io.KnownBytes.{IsAtEnd}
-use Rattle.farm_base.specs.Told.{Adds, AddsFront, ReadsAll}
+use Rattle.farm_base.specs.Exposed.{Adds, AddsPrefix, ReadsAll}
 use Rattle.drill_script.specs.Script.{script_read, script_of, past_limit, limit}
 use Rattle.drill_script.specs.declared.script.ScriptLine.{ScriptLine}
 use Rattle.wiki_cli.specs.declared.status.Status.{Status}
 use Rattle.wiki_cli.specs.declared.status.Status.TheVariants.{Ok as Done, Script, WriteFault}
-use Rattle.wiki_cli.specs.Ends.{Drills, IsReportOf, IsTold}
+use Rattle.wiki_cli.specs.Ends.{Drills, IsReportOf, IsExposed}
 use Rattle.wiki_cli.proofs.Complete.{not_refused}
 
 same_short : (all bytes rest : List ℕ) → all ≡ bytes ++ rest → rest ≡ [] → script_read all ≡ script_read bytes
@@ -23,8 +23,8 @@ same_long : (all bytes rest : List ℕ) → all ≡ bytes ++ rest → nat_le (le
 same_long all bytes rest e long =
     let more : length all ≡ length bytes + length rest = ap length e ∙ length-append bytes rest in
     let over : nat_le (length all) limit ≡ false = grind (arith, nat_tests) in
-    let front : take limit all ≡ take limit bytes = ap (take limit) e ∙ take-append-le limit bytes rest (grind (arith, nat_tests)) in
-    long_read all over ∙ ap (λ t. past_limit (script_of t)) front ∙ sym (long_read bytes long)
+    let prefix : take limit all ≡ take limit bytes = ap (take limit) e ∙ take-append-le limit bytes rest (grind (arith, nat_tests)) in
+    long_read all over ∙ ap (λ t. past_limit (script_of t)) prefix ∙ sym (long_read bytes long)
 
 pub read_same : (old new : Option (List ℕ)) (bytes : List ℕ) → ReadsAll limit old new bytes → IfSome old (λ all. script_read all ≡ script_read bytes)
 read_same None new bytes h = tt
@@ -62,11 +62,11 @@ read_out old new bytes before after status reads drills done =
     reads.1 (short_script bytes ran.0 ran.2)
 
 -- a script is not refused by a line
-pub not_line : (told : Option (List ℕ)) (before after : Option (List ℕ)) (n : ℕ) → IsTold told (λ bytes. IsOk (script_read bytes)) → IfSome told (λ bytes. Drills (script_read bytes) before after (Script n)) → ⊥
-not_line told before after n h e = not_refused told script_read n h e
+pub not_line : (exposed : Option (List ℕ)) (before after : Option (List ℕ)) (n : ℕ) → IsExposed exposed (λ bytes. IsOk (script_read bytes)) → IfSome exposed (λ bytes. Drills (script_read bytes) before after (Script n)) → ⊥
+not_line exposed before after n h e = not_refused exposed script_read n h e
 
--- what a report that is written, or a front of it, says of its script
+-- what a report that is written, or a prefix of it, says of its script
 pub drilled : (lines : List ScriptLine) (text : List ℕ) (before after : Option (List ℕ)) (status : Status) → IsReportOf lines text → (status ≡ Done) ⊎ (status ≡ WriteFault) →
-    (status ≡ Done → Adds before after text) → AddsFront before after text → Drills (Ok lines) before after status
-drilled lines text before after status is (inl done) whole front = subst (λ s. Drills (Ok lines) before after s) (sym done) (lines, text, refl, is, whole done)
-drilled lines text before after status is (inr failed) whole front = subst (λ s. Drills (Ok lines) before after s) (sym failed) (lines, text, refl, is, front)
+    (status ≡ Done → Adds before after text) → AddsPrefix before after text → Drills (Ok lines) before after status
+drilled lines text before after status is (inl done) whole prefix = subst (λ s. Drills (Ok lines) before after s) (sym done) (lines, text, refl, is, whole done)
+drilled lines text before after status is (inr failed) whole prefix = subst (λ s. Drills (Ok lines) before after s) (sym failed) (lines, text, refl, is, prefix)
