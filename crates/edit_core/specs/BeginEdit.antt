@@ -19,6 +19,7 @@ pub record IsBegun (edit : Edit) (at delay : ℕ) (ledger : LedgerState) (begun 
   pub ask : edit_of begun.ask ≡ edit
   pub again : begun.purge_title ≡ edit.title
   pub purge : begun.issued.purge ≡ next_number ledger
+  pub message : begun.issued.message ≡ next_number ledger
   pub due : begun.due ≡ at + delay
 
 -- its purge is issued, and room for two more messages is reserved
