@@ -5,8 +5,8 @@ use Rattle.std.proofs.lemmas.Bool.Decides.{nat_tests}
 use Rattle.std.specs.Prelude.{IfSome, IsOk}
 use Rattle.std.specs.Io.KnownBytes.{IsAtEnd}
 use Rattle.farm_base.specs.Exposed.{Adds, AddsPrefix, ReadsAll}
-use Rattle.drill_script.specs.Script.{script_read, script_of, past_limit, limit}
-use Rattle.drill_script.specs.declared.script.ScriptLine.{ScriptLine}
+use Rattle.first_script.specs.Script.{script_read, script_of, past_limit, limit}
+use Rattle.first_script.specs.declared.script.ScriptLine.{ScriptLine}
 use Rattle.wiki_cli.specs.declared.status.Status.{Status}
 use Rattle.wiki_cli.specs.declared.status.Status.TheVariants.{Ok as Done, Script, WriteFault}
 use Rattle.wiki_cli.specs.Ends.{Drills, IsReportOf, IsExposed}

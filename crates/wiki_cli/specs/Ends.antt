@@ -3,11 +3,11 @@
 use Rattle.std.specs.Prelude.{◌≡◌, ℕ, ◌⊎◌, List, length, Option, None, Some, Result, Ok, Err}
 use Rattle.wiki_model.specs.Bytes.{Bytes}
 use Rattle.farm_base.specs.Exposed.{Adds, AddsPrefix, Stays}
-use Rattle.farm_core.specs.AsModel.{World}
-use Rattle.farm_core.specs.declared.answer.Answer.{Answer}
-use Rattle.drill_script.specs.declared.script.ScriptLine.{ScriptLine}
-use Rattle.drill_script.specs.Runs.{Run, empty}
-use Rattle.drill_script.specs.Report.{report}
+use Rattle.first_farm.specs.AsModel.{World}
+use Rattle.first_farm.specs.declared.answer.Answer.{Answer}
+use Rattle.first_script.specs.declared.script.ScriptLine.{ScriptLine}
+use Rattle.first_script.specs.Runs.{Run, empty}
+use Rattle.first_script.specs.Report.{report}
 use Rattle.wiki_cli.specs.Command.{usage_line, read_fault_line, script_line}
 use Rattle.wiki_cli.specs.declared.status.Status.{Status}
 use Rattle.wiki_cli.specs.declared.status.Status.TheVariants as status

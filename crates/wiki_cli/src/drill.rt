@@ -1,16 +1,16 @@
 // The command `drill`, over the bytes of its input.
 ghost use Rattle.std.specs.Prelude.{◌≡◌, ◌≢◌, ◌≤◌, ◌+◌, ◌⊎◌, length, Ok, IfOk, string_bytes};
 ghost use Rattle.wiki_model.specs.Steps.{Rose};
-ghost use Rattle.drill_script.specs.Script.{script_read};
+ghost use Rattle.first_script.specs.Script.{script_read};
 ghost use Rattle.wiki_cli.specs.Command.{script_line};
 ghost use Rattle.wiki_cli.specs.Ends.{IsWritten, IsReportOf, Says, Drills};
 ghost use Rattle.farm_base.specs.Exposed.{Adds, AddsPrefix, Stays};
 ghost use Rattle.wiki_cli.specs.declared.status.Status.TheVariants.{Ok as Done, Usage, Script, ReadFault, WriteFault, Memory as OutOfMemory};
 
 use crate::Status;
-use drill_script::{SCRIPT_MAX, ScriptFault, ScriptLine, read_script, report, run_script};
+use first_script::{SCRIPT_MAX, ScriptFault, ScriptLine, read_script, report, run_script};
 use farm_base::{Memory, Sink, write_all};
-use farm_core::Farm;
+use first_farm::Farm;
 use std::alloc::{AllocError, Global};
 
 /// Writes the line of a refusal, as far as the sink takes it.

@@ -2,7 +2,7 @@
 ghost use Rattle.std.specs.Prelude.{◌≡◌, ◌⊎◌, ◌↔◌, ℕ, true, false, IsOk, IfSome};
 ghost use Rattle.std.specs.Io.KnownBytes.{IsAtEnd};
 ghost use Rattle.wiki_model.specs.Steps.{Rose};
-ghost use Rattle.drill_script.specs.Script.{script_read};
+ghost use Rattle.first_script.specs.Script.{script_read};
 ghost use Rattle.wiki_cli.specs.Command.{is_command};
 ghost use Rattle.wiki_cli.specs.Ends.{Says, Drills, IsExposed};
 ghost use Rattle.wiki_cli.specs.declared.status.Status.TheVariants.{Ok as Done, Usage, ReadFault, WriteFault, Memory as OutOfMemory};
@@ -10,7 +10,7 @@ ghost use Rattle.wiki_cli.specs.declared.status.Status.TheVariants.{Ok as Done, 
 use crate::Status;
 use crate::command::{USAGE, is_command};
 use crate::drill::{drill, refuse};
-use drill_script::SCRIPT_MAX;
+use first_script::SCRIPT_MAX;
 use farm_base::{InputFault, Sink, Source, read_all};
 use std::alloc::Global;
 

@@ -1,7 +1,7 @@
 use Rattle.std.proofs.Common.{sym, subst, ◌∙◌}
 use Rattle.std.specs.Prelude.{IfSome}
 use Rattle.std.proofs.lemmas.Bool.{false≢true}
-use Rattle.drill_script.specs.Script.{script_read}
+use Rattle.first_script.specs.Script.{script_read}
 use Rattle.wiki_cli.specs.Ends.{Drills}
 use Rattle.wiki_cli.proofs.Complete.{ends_well}
 use Rattle.wiki_cli.proofs.Prefixes.{not_line}

@@ -1,5 +1,5 @@
 use Rattle.std.proofs.Common.{subst}
-use Rattle.drill_script.specs.Script.{script_read}
+use Rattle.first_script.specs.Script.{script_read}
 use Rattle.wiki_cli.specs.Ends.{Drills}
 use Rattle.wiki_cli.proofs.Prefixes.{drills_same, read_out}
 use Rattle.wiki_cli.proofs.top.run_words.Goals as goal
