@@ -1,2 +1,3 @@
 pub mod AsModel
 pub mod Feed
+pub mod Wanted

@@ -1,6 +1,6 @@
 // The history as a list, and what is asked of it.
 use crate::Entry;
-use crate::find::{count_by, entry_at, first_of, last_by, last_on};
+use crate::find::{Wanted, count_of, entry_at, first_of, last_of};
 use farm_base::{Memory, Moment};
 use std::alloc::Global;
 use std::marker::Model;
@@ -84,14 +84,14 @@ impl Feed {
         ensures { result ≡ number_of (page self.now upto title.now) }
     {
         let (prefix, _) = self.entries.split_at(self.entries.len().min(upto as usize));
-        last_on(prefix, title)
+        last_of(prefix, Wanted::On(title))
     }
 
     /// The number of the client's commit with this token.
     pub fn by_token(&self, client: &ClientId, token: &Token) -> Option<u64>
         ensures { result ≡ number_of (commit_with_token self.now client.now token.now) }
     {
-        first_of(&self.entries, client, token)
+        first_of(&self.entries, Wanted::Of(client, token))
     }
 
     /// What the client has committed.
@@ -100,13 +100,13 @@ impl Feed {
         ensures last { result.last ≡ own self.now client.now }
         ensures stamp { result.stamp ≡ stamp_at self.now (own self.now client.now) }
     {
-        let last = last_by(&self.entries, client).unwrap_or(0);
+        let last = last_of(&self.entries, Wanted::By(client)).unwrap_or(0);
         let stamp = match self.entry(last) {
             Some(entry) => entry.stamp(),
             None => Moment(0),
         };
         Writes {
-            count: count_by(&self.entries, client),
+            count: count_of(&self.entries, Wanted::By(client)),
             last,
             stamp,
         }

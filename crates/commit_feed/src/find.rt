@@ -2,7 +2,8 @@
 ghost use Rattle.std.specs.Prelude.{◌≡◌, ◌<◌, ◌-◌, map, count_by, slice_get};
 ghost use Rattle.std.specs.Option.{option_copied};
 ghost use Rattle.commit_feed.specs.AsModel.{entry_of};
-ghost use Rattle.commit_feed.specs.Feed.{passes, on, by, of, last_number, first_number, number_passing};
+ghost use Rattle.commit_feed.specs.Feed.{passes, last_number, first_number, number_passing};
+ghost use Rattle.commit_feed.specs.Wanted.{test_of};
 
 use crate::Entry;
 use wiki_titles::{ClientId, Title, Token};
@@ -15,81 +16,74 @@ pub(crate) fn entry_at(entries: &[Entry], n: u64) -> Option<&Entry>
     entries.get(n as usize - 1)
 }
 
-// The number of the last commit on the title.
-pub(crate) fn last_on(entries: &[Entry], name: &Title) -> Option<u64>
-    ensures { result ≡ last_number (on name.now) 1 (map entry_of entries.now) }
+// Which commits are looked for.
+#[derive(Clone, Copy, Drop)]
+pub(crate) enum Wanted<'a> {
+    // Those on the title.
+    On(&'a Title),
+    // Those of the client.
+    By(&'a ClientId),
+    // Those of the client with the token.
+    Of(&'a ClientId, &'a Token),
+}
+
+// The number of the last commit that is looked for.
+pub(crate) fn last_of(entries: &[Entry], wanted: Wanted<'_>) -> Option<u64>
+    ensures { result ≡ last_number (test_of wanted.entry) 1 (map entry_of entries.now) }
 {
     let mut last = None;
     for (i, entry) in entries.iter().enumerate() {
-        if is_on(entry, name) {
+        if is_wanted(entry, wanted) {
             last = Some(i as u64 + 1);
         }
     }
     last
 }
 
-// The number of the last commit of the client.
-pub(crate) fn last_by(entries: &[Entry], id: &ClientId) -> Option<u64>
-    ensures { result ≡ last_number (by id.now) 1 (map entry_of entries.now) }
-{
-    let mut last = None;
-    for (i, entry) in entries.iter().enumerate() {
-        if is_by(entry, id) {
-            last = Some(i as u64 + 1);
-        }
-    }
-    last
-}
-
-// How many commits of the client there are.
-pub(crate) fn count_by(entries: &[Entry], id: &ClientId) -> u64
-    ensures { result ≡ number_passing (by id.now) 1 (map entry_of entries.now) }
-{
-    count_entries_by(entries, id) as u64
-}
-
-// The number of the first commit of the client with the token.
+// The number of the first commit that is looked for.
 #[tactic(auto, using(crate::proofs::Turns::first_here, crate::proofs::Turns::first_later))]
-pub(crate) fn first_of(entries: &[Entry], id: &ClientId, mark: &Token) -> Option<u64>
-    ensures { result ≡ first_number (of id.now mark.now) 1 (map entry_of entries.now) }
+pub(crate) fn first_of(entries: &[Entry], wanted: Wanted<'_>) -> Option<u64>
+    ensures { result ≡ first_number (test_of wanted.entry) 1 (map entry_of entries.now) }
 {
     for (i, entry) in entries.iter().enumerate() {
-        if is_of(entry, id, mark) {
+        if is_wanted(entry, wanted) {
             return Some(i as u64 + 1);
         }
     }
     None
 }
 
-fn count_entries_by(entries: &[Entry], id: &ClientId) -> usize
-    ensures { result ≡ count_by (λ entry. passes (by id.now) (entry_of entry)) entries.now }
+// How many commits are looked for.
+pub(crate) fn count_of(entries: &[Entry], wanted: Wanted<'_>) -> u64
+    ensures { result ≡ number_passing (test_of wanted.entry) 1 (map entry_of entries.now) }
 {
-    entries.iter().filter(|entry| is_by(entry, id)).count()
+    count_wanted(entries, wanted) as u64
 }
 
-fn is_on(entry: &Entry, name: &Title) -> bool
-    ensures { result ≡ passes (on name.now) (entry_of entry.now) }
+// The same, as a test of each entry.
+fn count_wanted(entries: &[Entry], wanted: Wanted<'_>) -> usize
+    ensures { result ≡ count_by (λ entry. passes (test_of wanted.entry) (entry_of entry)) entries.now }
+{
+    entries
+        .iter()
+        .filter(|entry| is_wanted(entry, wanted))
+        .count()
+}
+
+fn is_wanted(entry: &Entry, wanted: Wanted<'_>) -> bool
+    ensures { result ≡ passes (test_of wanted.entry) (entry_of entry.now) }
 {
     match entry {
         Entry::Beat { .. } => false,
-        Entry::Commit { title, .. } => title.text() == name.text(),
-    }
-}
-
-fn is_by(entry: &Entry, id: &ClientId) -> bool
-    ensures { result ≡ passes (by id.now) (entry_of entry.now) }
-{
-    match entry {
-        Entry::Beat { .. } => false,
-        Entry::Commit { client, .. } => client == id,
-    }
-}
-
-fn is_of(entry: &Entry, id: &ClientId, mark: &Token) -> bool
-    ensures { result ≡ passes (of id.now mark.now) (entry_of entry.now) }
-{
-    match entry {
-        Entry::Beat { .. } => false,
-        Entry::Commit { client, token, .. } => client == id && token.text() == mark.text(),
+        Entry::Commit {
+            title,
+            client,
+            token,
+            ..
+        } => match wanted {
+            Wanted::On(name) => title.text() == name.text(),
+            Wanted::By(id) => client == id,
+            Wanted::Of(id, mark) => client == id && token.text() == mark.text(),
+        },
     }
 }

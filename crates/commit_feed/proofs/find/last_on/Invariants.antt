@@ -1,9 +1,0 @@
-use Rattle.std.proofs.Common.{◌≡◌, ◌+◌, drop, map}
-use Rattle.wiki_model.specs.Html.{or_else}
-use Rattle.commit_feed.specs.AsModel.{entry_of}
-use Rattle.commit_feed.specs.Feed.{on, last_number}
-use Rattle.commit_feed.proofs.find.last_on.Given as goal
-
--- what is left, over what was found
-abbrev pub invariant-loop-i : goal.invariant-loop-i
-invariant-loop-i l = or_else (last_number (on l.name) (l.i + 1) (map entry_of (drop l.i l.entries))) l.last ≡ last_number (on l.name) 1 (map entry_of l.entries)
