@@ -1,3 +1,4 @@
 pub mod Changes
 pub mod Takes
+pub mod Kept
 pub mod SameBody

@@ -1,5 +1,5 @@
 -- Two bodies say the same if and only if they are equal: each part is a number or bytes, whose test decides.
-use Rattle.std.proofs.Common.{ℕ, ◌≡◌, Bool, true, false, List, refl, sym, ap, ◌∙◌, arith, subst}
+use Rattle.std.proofs.Common.{ℕ, ◌≡◌, Bool, true, false, List, refl, arith, subst}
 use Rattle.std.specs.Prelude.{◌==◌, ◌&&◌, bytes_eq}
 use Rattle.std.proofs.lemmas.Bool.{false≢true}
 use Rattle.std.proofs.lemmas.Bool.Decides.{nat_tests}

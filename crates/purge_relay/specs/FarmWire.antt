@@ -18,6 +18,10 @@ pub record Line : Type 0 where
   pub refused : ℕ
   pub empty : ℕ
 
+-- nothing was sent or taken yet
+abbrev pub new_line : Option (List Deal) → Line
+new_line plan = record { sent = []; taken = []; plan = plan; faults = 0; refused = 0; empty = 0 }
+
 abbrev pub carried_by : Line → Option Carried
 carried_by line = Some (record { sent = map message_of line.sent; taken = map message_of line.taken })
 

@@ -4,5 +4,5 @@ pub mod Body
 pub mod LedgerRow
 pub mod Ledger
 pub mod FarmWire
-pub mod Ready
+pub mod Kept
 pub mod AsModel

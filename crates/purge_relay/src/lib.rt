@@ -20,6 +20,7 @@ mod farm_wire;
 mod ledger;
 mod ledger_row;
 mod message;
+mod past;
 mod wire;
 
 pub use farm_wire::{Deal, FarmWire};

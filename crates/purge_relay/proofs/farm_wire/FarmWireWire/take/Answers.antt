@@ -1,10 +1,21 @@
-use Rattle.std.proofs.Common.{◌≡◌, Some, map, subst}
-use Rattle.std.specs.Prelude.{IfOk}
-use Rattle.purge_relay.specs.AsModel.{message_of, maybe_taken}
-use Rattle.purge_relay.proofs.Takes.{told}
+use Rattle.std.proofs.Common.{rules, ◌≡◌, Some, Ok}
+use Rattle.purge_relay.proofs.Kept.{keeps_given, takes_given}
 use Rattle.purge_relay.proofs.farm_wire.FarmWireWire.take.Goals as goal
 
-pub returns-in-Ok-Some-clause-taken : goal.returns-in-Ok-Some-clause-taken
-returns-in-Ok-Some-clause-taken c = let i = c.self.inside in let t = c.take_from-result in
-    subst (λ line. IfOk t.result (λ m. Some (record { sent = map message_of i.sent.items; taken = map message_of t.new.taken.items }) ≡ Some (maybe_taken m (record { sent = map message_of line.sent; taken = map message_of line.taken })))) c.self.view_is
-    (told t.result i.sent.items i.taken.items t.new.taken.items t.ensures.given)
+pub invariant_of-self : goal.invariant_of-self
+invariant_of-self c =
+    let i = c.self.inside in
+    let t = c.take_next-result in
+    let m = c.in-Ok-Some.message in
+    let is : t.result ≡ Ok (Some m) = search rules in
+    keeps_given i.script t.new.script i.waiting.items t.new.waiting.items i.sent.messages i.taken.messages c.with-self-inside.result.messages t.result m
+    c.self.invariant t.ensures is c.with-self-inside.ensures
+
+pub returns-in-Ok-Some-clause-exact : goal.returns-in-Ok-Some-clause-exact
+returns-in-Ok-Some-clause-exact c =
+    let i = c.self.inside in
+    let t = c.take_next-result in
+    let m = c.in-Ok-Some.message in
+    let is : t.result ≡ Ok (Some m) = search rules in
+    takes_given i.script t.new.script i.waiting.items t.new.waiting.items i.sent.messages i.taken.messages c.with-self-inside.result.messages t.result m
+    i.faults i.refused i.empty c.args.self.now c.self.invariant t.ensures is c.with-self-inside.ensures c.self.view_is
