@@ -2,3 +2,4 @@ mod Rising
 mod Follows
 mod Rows
 mod Small
+pub mod Failing

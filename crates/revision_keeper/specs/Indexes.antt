@@ -1,6 +1,6 @@
 -- The ordered indexes over a list of entries: what they hold, and when they agree with the list.
 use Rattle.std.specs.Prelude.{◌≡◌, ℕ, ◌+◌, ◌-◌, ◌≤◌, ◌&&◌, if◌then◌else◌, List, [], ◌∷◌, ◌++◌, map, filter, take, length, Option, Some, unwrap_or, option_map, option_and_then, nat_le, bytes_eq, ⊤}
-use Rattle.std.specs.BTreeMap.{get}
+use Rattle.std.specs.BTreeMap.{BTreeMap, get}
 use Rattle.wiki_model.specs.Bytes.{last_of}
 use Rattle.wiki_model.specs.Titles.{Title, Client, Token}
 use Rattle.wiki_model.specs.History.{Entry, Numbered, IsHistory, commits_on, commit_with_token, number_of}
@@ -53,6 +53,11 @@ AddsNumber old new title number = (t : Title) → numbers_on new t ≡ (if bytes
 -- the client's next commit
 abbrev pub one_more : Writes → (number stamp : ℕ) → Writes
 one_more writes number stamp = record { count = writes.count + 1; last = number; stamp = stamp }
+
+-- one token has this number, and the others have what they had
+abbrev pub AddsToken : (old new : BTreeMap Token ℕ) → Token → (number : ℕ) → Type 0
+AddsToken old new token number =
+    (t : Token) → get bytes_cmp new t ≡ (if bytes_eq token t then Some number else get bytes_cmp old t)
 
 -- one title loses its last number
 abbrev pub DropsNumber : (old new : TitleIndex) → Title → Type 0

@@ -13,9 +13,12 @@ pub record MemKeeperState : Type 0 where
   pub calls : ℕ
   pub faults : ℕ
 
+abbrev pub is_named : (number : ℕ) → List ℕ → Bool
+is_named number numbers = list_any (λ n. nat_eq n number) numbers
+
 -- the list names the next append
 abbrev pub fails_next : MemKeeperState → Bool
-fails_next state = list_any (λ n. nat_eq n (counted state.calls)) state.failing
+fails_next state = is_named (counted state.calls) state.failing
 
 abbrev pub is_fault : {T : Type 0} → Result T KeepFault → Bool
 is_fault (Ok value) = false

@@ -3,7 +3,7 @@ ghost use Rattle.std.specs.Prelude.{◌≡◌, ℕ, ◌<◌, ◌^◌, if◌then�
 ghost use Rattle.std.specs.BTreeMap.{get, IsEmpty};
 ghost use Rattle.wiki_titles.specs.Order.{bytes_cmp};
 ghost use Rattle.wiki_model.specs.Titles.{Client as ClientText, Token as TokenText};
-ghost use Rattle.revision_keeper.specs.Indexes.{writes_in, number_in, no_writes, one_more, AreSameWrites, AddsWrite};
+ghost use Rattle.revision_keeper.specs.Indexes.{writes_in, number_in, no_writes, one_more, AreSameWrites, AddsToken, AddsWrite};
 
 use commit_feed::Writes;
 use farm_base::Moment;
@@ -46,7 +46,7 @@ impl ClientRow {
     fn add(&mut self, token: Token, number: u64, stamp: Moment) -> Result<(), AllocError>
         requires { self.old.writes.count < 2 ^ 63 }
         ensures writes { OnOk result (self.new.writes ≡ one_more self.old.writes number stamp) }
-        ensures tokens { OnOk result ((t : TokenText) → get bytes_cmp self.new.tokens t ≡ (if bytes_eq token t then Some number else get bytes_cmp self.old.tokens t)) }
+        ensures tokens { OnOk result (AddsToken self.old.tokens self.new.tokens token number) }
         ensures writes_stay { OnErr result (self.new.writes ≡ self.old.writes) }
         ensures tokens_stay { OnErr result (self.new.tokens.entries ≡ self.old.tokens.entries) }
     {

@@ -176,7 +176,8 @@ fn index_entry(
     requires short { length entries.now < 2 ^ 63 }
     requires before { AreIndexed (map entry_of entries.now) titles.old clients.old }
     requires after { IsHistory (map entry_of entries.now ++ entry_of entry.now ∷ []) }
-    ensures ok { OnOk result (AreIndexed (map entry_of entries.now ++ entry_of entry.now ∷ []) titles.new clients.new) }
+    ensures ok { let longer = map entry_of entries.now ++ entry_of entry.now ∷ [] in
+        OnOk result (AreIndexed longer titles.new clients.new) }
     ensures err { OnErr result (AreIndexed (map entry_of entries.now) titles.new clients.new) }
 {
     match entry {
@@ -219,7 +220,10 @@ fn index_commit(
 ) -> Result<(), AllocError>
     requires { (writes_in clients.old commit.now.client.now).count < 2 ^ 63 }
     ensures titles { OnOk result (AddsNumber titles.old titles.new commit.now.title.now commit.now.number) }
-    ensures clients { OnOk result (AddsWrite clients.old clients.new commit.now.client.now commit.now.token.now commit.now.number commit.now.stamp) }
+    ensures clients { let client = commit.now.client.now in
+        let token = commit.now.token.now in
+        let number = commit.now.number in
+        OnOk result (AddsWrite clients.old clients.new client token number commit.now.stamp) }
     ensures titles_stay { OnErr result (AreSameNumbers titles.old titles.new) }
     ensures clients_stay { OnErr result (AreSameWrites clients.old clients.new) }
 {

@@ -3,13 +3,15 @@ ghost use Rattle.std.specs.Prelude.{◌≡◌, ◌≤◌, ◌<◌, ℕ, ◌+◌,
 ghost use Rattle.wiki_model.specs.History.{IsHistory, entry_at, page, number_of, commit_with_token};
 ghost use Rattle.commit_feed.specs.AsModel.{entry_of};
 ghost use Rattle.farm_base.specs.Causes.{counted};
+ghost use Rattle.farm_base.specs.FailingCalls.{one_more};
 ghost use Rattle.revision_keeper.specs.Causes.{HasFault};
 ghost use Rattle.revision_keeper.specs.Bounds.{IsSmall, AreSmall, writes_of};
-ghost use Rattle.revision_keeper.specs.MemKeeper.{MemKeeperState, fails_next, is_fault};
+ghost use Rattle.revision_keeper.specs.MemKeeper.{MemKeeperState, is_named, fails_next, is_fault};
 
 use crate::indexed_history::IndexedHistory;
 use crate::{KeepFault, Keeper};
 use commit_feed::{Entry, Writes};
+use farm_base::FailingCalls;
 use std::alloc::Global;
 use std::marker::Model;
 use wiki_titles::{ClientId, Title, Token};
@@ -23,10 +25,8 @@ use wiki_titles::{ClientId, Title, Token};
 #[derive(Drop)]
 pub struct MemKeeper {
     history: IndexedHistory,
-    /// The numbers of the appends that fail, counted from 1.
-    failing: Vec<u64>,
-    /// How many appends were asked for.
-    calls: u64,
+    /// The appends that were asked for, and which of them fail.
+    appends: FailingCalls,
     /// How many of them failed.
     faults: u64,
 }
@@ -36,7 +36,7 @@ impl Model for MemKeeper {
 
     ghost Value = { MemKeeperState };
 
-    ghost view = { λ k. record { history = k.history; failing = k.failing.items; calls = k.calls; faults = k.faults } };
+    ghost view = { λ k. record { history = k.history; failing = k.appends.numbers; calls = k.appends.made; faults = k.faults } };
 }
 
 impl MemKeeper {
@@ -55,8 +55,7 @@ impl MemKeeper {
     {
         MemKeeper {
             history: IndexedHistory::new(alloc),
-            failing: calls,
-            calls: 0,
+            appends: FailingCalls::new(calls),
             faults: 0,
         }
     }
@@ -127,8 +126,7 @@ impl Keeper for MemKeeper {
         ensures calls { self.new.calls ≡ counted self.old.calls }
         ensures failing { self.new.failing ≡ self.old.failing }
     {
-        self.calls = self.calls.saturating_add(1);
-        if self.failing.contains(&self.calls) {
+        if next_fails(&mut self.appends) {
             self.faults = self.faults.saturating_add(1);
             return Err(KeepFault::Fault);
         }
@@ -141,4 +139,12 @@ impl Keeper for MemKeeper {
     {
         self.history.len();
     }
+}
+
+// Counts an append, and says whether it is to fail.
+fn next_fails(appends: &mut FailingCalls) -> bool
+    ensures fails { result ≡ is_named (counted appends.old.made) appends.old.numbers }
+    ensures counts { appends.new ≡ one_more appends.old }
+{
+    appends.next_fails()
 }
