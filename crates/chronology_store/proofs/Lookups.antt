@@ -1,6 +1,5 @@
 -- What the map of rows says of each client.
 use Rattle.std.proofs.Common.{◌≡◌, ℕ, Bool, true, false, cond, List, [], ◌∷◌, map, filter, Some, None, Option, option_map, unwrap_or, IfSome, refl, sym, ◌∙◌, ap, subst, bytes_eq}
-use Rattle.std.specs.Prelude.{◌||◌, is_some}
 use Rattle.std.specs.Map.{lookup, keys_of}
 use Rattle.std.specs.Map.Calls.{RetainsPairs}
 use Rattle.std.specs.BTreeMap.{is_at}
@@ -17,7 +16,7 @@ use Rattle.std.proofs.lemmas.Map.Keys.{IsDistinct-from_sorted}
 use Rattle.chronology_store.specs.declared.position_row.PositionRow.{PositionRow}
 use Rattle.chronology_store.specs.declared.position_row.HeldPosition.{HeldPosition}
 use Rattle.chronology_store.specs.PositionRow.{nothing, swept, is_needed, IsNeeded}
-use Rattle.chronology_store.specs.ChronologyStore.{Positions, row_of, IsSetTo, Sweeps, AreNeeded}
+use Rattle.chronology_store.specs.ChronologyStore.{Positions, IsSetTo, Sweeps, AreNeeded}
 
 abbrev pub order : List ℕ → List ℕ → Ordering
 order = slice_cmp nat_cmp

@@ -1,6 +1,6 @@
 -- A store as the model's rows: a position that is told to a store is told to them, a reserved row changes nothing that is found,
 -- and a sweep forgets only what has expired. So what the laws say of rows holds of a store, and no caller needs its rows.
-use Rattle.std.proofs.Common.{◌≡◌, ℕ, ◌≤◌, ◌⊎◌, Bool, true, false, cond, List, [], ◌∷◌, Option, Some, None, option_map, IfSome, refl, sym, ◌∙◌, ap, arith, subst, inl, inr, nat_lt, bytes_eq}
+use Rattle.std.proofs.Common.{◌≡◌, ℕ, ◌≤◌, ◌⊎◌, Bool, true, false, cond, Option, Some, None, option_map, IfSome, refl, sym, ◌∙◌, ap, arith, subst, inl, inr, nat_lt, bytes_eq}
 use Rattle.std.specs.Prelude.{option_and_then}
 use Rattle.std.proofs.lemmas.Bool.Decides.{nat_tests}
 use Rattle.std.proofs.lemmas.Slice.Eq.{bytes_eq-Decides}

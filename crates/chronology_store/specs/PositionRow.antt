@@ -43,6 +43,9 @@ known_by held = record { index = held.index; position = held.position }
 abbrev pub is_needed : PositionRow → Bool
 is_needed row = row.reserved || is_some row.held
 
+abbrev pub row_with : Bool → Option HeldPosition → PositionRow
+row_with reserved held = record { reserved = reserved; held = held }
+
 abbrev pub IsNeeded : PositionRow → Type 0
 IsNeeded row = is_needed row ≡ true
 

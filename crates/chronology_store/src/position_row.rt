@@ -1,6 +1,6 @@
 // What is kept of one client, and the table of all clients.
 ghost use Rattle.std.specs.Prelude.{◌≡◌, IsOk, OnOk, OnErr, option_and_then};
-ghost use Rattle.chronology_store.specs.PositionRow.{is_newer, later, unless_past, swept, IsNeeded};
+ghost use Rattle.chronology_store.specs.PositionRow.{is_newer, later, unless_past, swept, row_with, IsNeeded};
 ghost use Rattle.chronology_store.specs.ChronologyStore.{row_of, IsSetTo, HasRow, Sweeps, AreNeeded};
 
 use db_position::Position;
@@ -86,10 +86,10 @@ pub(crate) fn put(
     reserved: bool,
     held: Option<HeldPosition>,
 ) -> Result<(), Memory>
-    ensures ok { OnOk result (IsSetTo client.now (record { reserved = reserved; held = held }) rows.old.entries rows.new.entries) }
+    ensures ok { OnOk result (IsSetTo client.now (row_with reserved held) rows.old.entries rows.new.entries) }
     ensures err { OnErr result (rows.new.entries ≡ rows.old.entries) }
     ensures there { HasRow rows.old.entries client.now → IsOk result }
-    ensures needed { IsNeeded (record { reserved = reserved; held = held }) → AreNeeded rows.old.entries → AreNeeded rows.new.entries }
+    ensures needed { IsNeeded (row_with reserved held) → AreNeeded rows.old.entries → AreNeeded rows.new.entries }
 {
     match rows.insert(*client, PositionRow { reserved, held }) {
         Ok(_) => Ok(()),
