@@ -3,7 +3,6 @@ ghost use Rattle.std.specs.Prelude.{◌≡◌, [], None, Some, drop, find, slice
 ghost use Rattle.std.specs.List.{list_any};
 ghost use Rattle.std.specs.Option.{option_copied};
 ghost use Rattle.farm_base.specs.Causes.{counted};
-ghost use Rattle.purge_relay.specs.Carried.{Carried};
 ghost use Rattle.purge_relay.specs.AsModel.{HasSent, HasTaken, empty_after};
 ghost use Rattle.purge_relay.specs.Causes.{HasWireFault};
 ghost use Rattle.purge_relay.specs.FarmWire.{has_number, carried_by, Takes, Sends};
