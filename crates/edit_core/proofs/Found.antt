@@ -4,7 +4,7 @@ use Rattle.std.specs.Prelude.{option_map, unwrap_or, nat_eq}
 use Rattle.wiki_model.specs.Titles.{Title}
 use Rattle.wiki_model.specs.History.{Entry, Edit, Commit, Numbered, Committed, IsHistory, count, stamp_at, entry_at, page, number_of, commit_with_token, current_revision, commit_for}
 use Rattle.wiki_model.specs.Answers.{Conflict, edit_answer, edit_answer_of}
-use Rattle.commit_feed.proofs.Found.{number_some, number_none, with_token_at, page_at, few_revisions}
+use Rattle.commit_feed.proofs.Found.{number_some, number_none, with_token_at, page_at}
 use Rattle.wiki_model.specs.Changes.{IsNext}
 use Rattle.wiki_model.proofs.HistoryGrowth.{history-push, commit-next}
 use Rattle.std.proofs.lemmas.Bool.Decides.{nat_tests}

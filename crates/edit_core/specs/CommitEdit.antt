@@ -1,5 +1,5 @@
 -- What the second step of an edit leaves.
-use Rattle.std.specs.Prelude.{ℕ, ◌≡◌, ◌⊎◌, ◌+◌, ◌-◌, if◌then◌else◌, nat_lt, List, [], ◌∷◌, ◌++◌, length, Option, Some, None, option_map, IfSome, Result, Ok, Err, IfOk, OnOk}
+use Rattle.std.specs.Prelude.{ℕ, ◌≡◌, ◌⊎◌, ◌+◌, ◌-◌, if◌then◌else◌, nat_lt, List, [], ◌∷◌, ◌++◌, length, Option, Some, None, option_map, IfSome, Result, Ok, Err, OnOk}
 use Rattle.wiki_model.specs.Titles.{Title}
 use Rattle.wiki_model.specs.Limits.{position_life}
 use Rattle.wiki_model.specs.History.{Entry, Edit, Committed, commit_for}

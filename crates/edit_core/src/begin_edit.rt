@@ -33,7 +33,9 @@ pub fn begin<K: Keeper>(
     requires moment { at ≤ greatest_moment }
     requires delay { delay ≤ bound_max }
     ensures cause { HasStoreFault (K.faults keeper.old) (K.faults keeper.new) result }
-    ensures begins { Begins (state_of (K.content keeper.old) ledger.old positions.old) (state_of (K.content keeper.new) ledger.new positions.new) (edit_of ask) at delay result }
+    ensures begins { let before = state_of (K.content keeper.old) ledger.old positions.old in
+        let after = state_of (K.content keeper.new) ledger.new positions.new in
+        Begins before after (edit_of ask) at delay result }
 {
     if let Some(decided) = decide(keeper, &ask)? {
         return match refusal(decided) {

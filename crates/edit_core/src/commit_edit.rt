@@ -33,7 +33,9 @@ pub fn commit<K: Keeper>(
     requires moment { at ≤ greatest_moment }
     requires later { IfSome (K.content keeper.old) (λ h. stamp_at h (length h) ≤ at) }
     ensures cause { HasStoreFault (K.faults keeper.old) (K.faults keeper.new) result }
-    ensures commits { Commits (state_of (K.content keeper.old) ledger.old positions.old) (state_of (K.content keeper.new) ledger.new positions.new) edit at result }
+    ensures commits { let before = state_of (K.content keeper.old) ledger.old positions.old in
+        let after = state_of (K.content keeper.new) ledger.new positions.new in
+        Commits before after edit at result }
 {
     match commit_with_outcome(keeper, ledger, positions, edit, at) {
         Ok(outcome) => Ok(outcome.note),
@@ -59,7 +61,9 @@ pub fn commit_with_outcome<K: Keeper>(
     requires moment { at ≤ greatest_moment }
     requires later { IfSome (K.content keeper.old) (λ h. stamp_at h (length h) ≤ at) }
     ensures cause { HasStoreFault (K.faults keeper.old) (K.faults keeper.new) result }
-    ensures commits { CommitsWithOutcome (state_of (K.content keeper.old) ledger.old positions.old) (state_of (K.content keeper.new) ledger.new positions.new) edit at result }
+    ensures commits { let before = state_of (K.content keeper.old) ledger.old positions.old in
+        let after = state_of (K.content keeper.new) ledger.new positions.new in
+        CommitsWithOutcome before after edit at result }
 {
     let BegunEdit {
         ask,
