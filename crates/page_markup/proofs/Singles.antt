@@ -1,11 +1,9 @@
 -- Marks of one byte, and the first byte of others.
-use Rattle.std.proofs.Common.{suc, [], ◌∷◌, length, drop, ◌≡◌, ℕ, ◌<◌, ◌+◌, Bool, true, false, refl, arith, ap, sym, ◌∙◌, nat_eq, get_or}
+use Rattle.std.proofs.Common.{suc, [], ◌∷◌, length, drop, ◌≡◌, ℕ, ◌<◌, ◌+◌, Bool, true, false, refl, arith, ap, sym, ◌∙◌, nat_eq, get_or, cond, not}
 use Rattle.std.proofs.lemmas.Bool.Decides.{nat_tests}
-use Rattle.std.proofs.lemmas.List.{length-drop}
-use Rattle.std.proofs.Math.Seq.{drop-cons}
 use Rattle.wiki_model.specs.Bytes.{Bytes, begins}
+use Rattle.farm_base.specs.Bytes.{first_place}
 use Rattle.page_markup.specs.Mark.{distance, next_place}
-use Rattle.page_markup.proofs.Places.{distance_here, distance_within, place_on}
 use Rattle.page_markup.proofs.Cuts.{begins_one}
 
 pub differs : (a b : ℕ) → (a ≡ b → ⊥) → nat_eq a b ≡ false
@@ -22,16 +20,24 @@ first_differs mark [] l k h = let no : ⊥ = omega (arith, l) in absurd no
 first_differs [] (c ∷ s) l k h = let no : ⊥ = omega (arith, k) in absurd no
 first_differs (m ∷ ms) (c ∷ s) l k h = first_by m c ms s (differs m c (λ e. h (sym e)))
 
-one_at : (byte : ℕ) (text : Bytes) (at : ℕ) (b : Bool) → at < length text → nat_eq byte (get_or text at 0) ≡ b → begins (byte ∷ []) (drop at text) ≡ b
-one_at byte text at b l e = ap (begins (byte ∷ [])) (drop-cons text at 0 l) ∙ begins_one byte (get_or text at 0) (drop (suc at) text) b e
+turned : (a b : ℕ) (t : Bool) → nat_eq a b ≡ t → nat_eq b a ≡ t
+turned a b true e = grind (arith, nat_tests)
+turned a b false e = grind (arith, nat_tests)
 
-pub byte_on : (byte : ℕ) (at : ℕ) (text : Bytes) → at < length text → (get_or text at 0 ≡ byte → ⊥) → next_place (byte ∷ []) at text ≡ next_place (byte ∷ []) (at + 1) text
-byte_on byte at text l h = place_on (byte ∷ []) at text l (one_at byte text at false l (differs byte (get_or text at 0) (λ e. h (sym e))))
+-- the first place of a byte is how far the mark of that byte is
 
-pub byte_here : (byte : ℕ) (at : ℕ) (text : Bytes) → at < length text → get_or text at 0 ≡ byte → next_place (byte ∷ []) at text ≡ at
-byte_here byte at text l e =
-    let d : distance (byte ∷ []) (drop at text) ≡ 0 = distance_here (byte ∷ []) (drop at text) (one_at byte text at true l (equals byte (get_or text at 0) (sym e))) in
-    omega (arith, d)
+first_one : (byte c : ℕ) (s : Bytes) (t : Bool) → nat_eq c byte ≡ t → first_place byte s ≡ distance (byte ∷ []) s → first_place byte (c ∷ s) ≡ distance (byte ∷ []) (c ∷ s)
+first_one byte c s true e later =
+    ap (λ t. cond (not t) (1 + first_place byte s) 0) e
+    ∙ sym (ap (λ t. cond t 0 (suc (distance (byte ∷ []) s))) (begins_one byte c s true (turned c byte true e)))
+first_one byte c s false e later =
+    let one_more : 1 + first_place byte s ≡ suc (distance (byte ∷ []) s) = omega (arith, later) in
+    ap (λ t. cond (not t) (1 + first_place byte s) 0) e ∙ one_more
+    ∙ sym (ap (λ t. cond t 0 (suc (distance (byte ∷ []) s))) (begins_one byte c s false (turned c byte false e)))
 
-pub byte_end : (byte : ℕ) (at : ℕ) (text : Bytes) → at ≡ length text → next_place (byte ∷ []) at text ≡ at
-byte_end byte at text e = omega (arith, e, distance_within (byte ∷ []) (drop at text), length-drop at text)
+first_is : (byte : ℕ) (text : Bytes) → first_place byte text ≡ distance (byte ∷ []) text
+first_is byte [] = refl
+first_is byte (c ∷ s) = first_one byte c s (nat_eq c byte) refl (first_is byte s)
+
+pub first_is_next : (byte from : ℕ) (text : Bytes) → from + first_place byte (drop from text) ≡ next_place (byte ∷ []) from text
+first_is_next byte from text = ap (λ n. from + n) (first_is byte (drop from text))

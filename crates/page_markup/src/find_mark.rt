@@ -1,20 +1,19 @@
 // The next place of a mark.
-ghost use Rattle.std.specs.Prelude.{◌≡◌, ◌≤◌, ◌<◌, ◌^◌, ◌+◌, ◌∷◌, [], length, drop, IsTrue, true, false};
+ghost use Rattle.std.specs.Prelude.{◌≡◌, ◌≤◌, ◌<◌, ◌+◌, ◌∷◌, [], length, drop, IsTrue, false};
 ghost use Rattle.wiki_model.specs.Bytes.{begins};
-ghost use Rattle.page_markup.specs.Mark.{distance, next_place, Remembers};
+ghost use Rattle.page_markup.specs.Mark.{next_place, Remembers};
+
+use farm_base::bytes::first_place;
 
 /// The first place at or after `from` where the byte stands, or the end.
-#[tactic(auto, using(crate::proofs::Singles::byte_on, crate::proofs::Singles::byte_here, crate::proofs::Singles::byte_end))]
+#[tactic(auto, using(crate::proofs::Singles::first_is_next))]
 pub fn find_in(bytes: &[u8], byte: u8, from: usize) -> usize
     requires within { from ≤ length bytes.now }
     ensures place { result ≡ next_place (byte ∷ []) from bytes.now }
     ensures end { result ≤ length bytes.now }
 {
-    let mut at = from;
-    while at < bytes.len() && bytes[at] != byte {
-        at += 1;
-    }
-    at
+    let (_, rest) = bytes.split_at(from);
+    from + first_place(rest, byte)
 }
 
 /// The same in a text.
