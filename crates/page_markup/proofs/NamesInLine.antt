@@ -1,6 +1,6 @@
 -- The templates that a text names when it is read in one line. Braces stand there where they stand in the text, since neither a line
 -- feed nor a space is one; so it is enough to read in one line what stands between them.
-use Rattle.std.proofs.Common.{zero, suc, [], ◌∷◌, ◌++◌, List, length, take, drop, map, ◌≡◌, ℕ, ◌≤◌, ◌<◌, ◌+◌, ◌-◌, Bool, true, false, cond, refl, arith, ap, sym, ◌∙◌, Some, None, nat_eq, nat_le, get_or, append_assoc, append-nil}
+use Rattle.std.proofs.Common.{zero, suc, [], ◌∷◌, ◌++◌, List, length, take, drop, ◌≡◌, ℕ, ◌≤◌, ◌<◌, ◌+◌, ◌-◌, Bool, true, false, cond, refl, arith, ap, sym, ◌∙◌, Some, None, nat_eq, nat_le, get_or, append_assoc, append-nil}
 use Rattle.std.specs.Prelude.{Option, codes, option_map, option_and_then, if◌then◌else◌, ◌&&◌, ⊤}
 use Rattle.std.proofs.lemmas.Bool.Decides.{nat_tests}
 use Rattle.std.proofs.lemmas.List.{length-map, length-drop, take_all, drop_all}

@@ -66,8 +66,10 @@ pub fn quotes_within(text: &str, quotes: &[u8], at: usize, to: usize, known: usi
     requires some { 0 < length quotes.now }
     requires few { length quotes.now < 6 }
     requires remembered { Remembers quotes.now text.now (at + (length quotes.now + 1)) known }
-    ensures found { cut_within (length quotes.now) at to text.now result.close ≡ enclosed quotes.now (between at to text.now) }
-    ensures bounds { IfSome result.close (λ close. (at + length quotes.now < close) × (close + length quotes.now ≤ to)) }
+    ensures found { cut_within (length quotes.now) at to text.now result.close
+        ≡ enclosed quotes.now (between at to text.now) }
+    ensures after { IfSome result.close (λ close. at + length quotes.now < close) }
+    ensures before { IfSome result.close (λ close. close + length quotes.now ≤ to) }
     ensures remembers { Remembers quotes.now text.now (at + (length quotes.now + 1)) result.known }
 {
     let width = quotes.len();
@@ -98,8 +100,11 @@ pub fn brackets_within(text: &str, names: Names, at: usize, to: usize, known: us
     requires order { at ≤ to }
     requires within { to ≤ length text.now }
     requires remembered { Remembers (closing_of names) text.now (at + 2) known }
-    ensures found { cut_within 2 at to text.now result.close ≡ bracketed (opening_of names) (closing_of names) (between at to text.now) }
-    ensures bounds { IfSome result.close (λ close. (at + 2 ≤ close) × (close + 2 ≤ to) × (close ≤ at + 2 + brackets_max)) }
+    ensures found { cut_within 2 at to text.now result.close
+        ≡ bracketed (opening_of names) (closing_of names) (between at to text.now) }
+    ensures after { IfSome result.close (λ close. at + 2 ≤ close) }
+    ensures before { IfSome result.close (λ close. close + 2 ≤ to) }
+    ensures near { IfSome result.close (λ close. close ≤ at + 2 + brackets_max) }
     ensures cuts { IfSome result.close (λ close. IsCharBoundary text.now (at + 2) × IsCharBoundary text.now close) }
     ensures remembers { Remembers (closing_of names) text.now (at + 2) result.known }
 {

@@ -142,7 +142,8 @@ fn read_quotes(
     requires some { 0 < length quotes.now }
     requires few { length quotes.now < 6 }
     requires remembered { Remembers quotes.now text.now (at + length quotes.now + 1) known }
-    ensures read { IfOk result (λ _. marks.new.items ≡ marks.old.items ++ quote_marks rule quotes.now at (drop at text.now)) }
+    ensures read { let read = quote_marks rule quotes.now at (drop at text.now) in
+        IfOk result (λ _. marks.new.items ≡ marks.old.items ++ read) }
     ensures remembers { IfOk result (λ place. Remembers quotes.now text.now (at + length quotes.now + 1) place) }
 {
     if !find_mark::stands_at(text, quotes, at) {

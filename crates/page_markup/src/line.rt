@@ -1,5 +1,5 @@
 // A line of a text: what it is, and where it ends.
-ghost use Rattle.std.specs.Prelude.{◌≡◌, ◌≤◌, ◌<◌, ◌-◌, ◌+◌, ◌∷◌, ℕ, List, length, drop, take, reverse, codes, MatchOption, true, false, ◌==◌, get_or};
+ghost use Rattle.std.specs.Prelude.{◌≡◌, ◌≤◌, ◌<◌, ◌-◌, ◌+◌, length, drop, take, reverse, codes, IfNone, IfSome, true, false, ◌==◌, get_or};
 ghost use Rattle.std.specs.Str.{IsCharBoundary};
 ghost use Rattle.std.specs.List.{list_all};
 ghost use Rattle.wiki_model.specs.Bytes.{line_feed, space, run_of, trimmed, skip_spaces};
@@ -75,7 +75,12 @@ fn is_blank(line: &str) -> bool
 /// The level and the middle of a heading, if the line is one.
 #[tactic(auto, using(crate::proofs::LineKinds::no_level, crate::proofs::LineKinds::all_signs, crate::proofs::LineKinds::empty_middle, crate::proofs::LineKinds::heading_is))]
 fn heading(line: &str) -> Option<(usize, &str)>
-    ensures { MatchOption result (is_heading line.now ≡ false) (λ found. (is_heading line.now ≡ true) × (found.0 ≡ heading_level line.now) × (found.0 ≤ 6) × (found.1.now ≡ middle_of (heading_level line.now) line.now) × (length found.1.now ≤ length line.now)) }
+    ensures none { IfNone result (is_heading line.now ≡ false) }
+    ensures some { IfSome result (λ _. is_heading line.now ≡ true) }
+    ensures level { IfSome result (λ found. found.0 ≡ heading_level line.now) }
+    ensures low { IfSome result (λ found. found.0 ≤ 6) }
+    ensures middle { IfSome result (λ found. found.1.now ≡ middle_of (heading_level line.now) line.now) }
+    ensures within { IfSome result (λ found. length found.1.now ≤ length line.now) }
 {
     let level = heading_level(line.as_bytes());
     if level == 0 || is_signs(line) {

@@ -57,7 +57,8 @@ fn push_line(made: &mut String, text: &str, at: usize) -> Result<usize, AllocErr
     requires cut { IsCharBoundary text.now at }
     ensures past { IfOk result (λ next. at < next) }
     ensures cut { IfOk result (λ next. next < length text.now → IsCharBoundary text.now next) }
-    ensures spaced { IfOk result (λ next. with_rest (string_bytes made.new) (drop next text.now) ≡ with_rest (string_bytes made.old) (drop at text.now)) }
+    ensures spaced { let whole = with_rest (string_bytes made.old) (drop at text.now) in
+        IfOk result (λ next. with_rest (string_bytes made.new) (drop next text.now) ≡ whole) }
 {
     let end = find_mark::find_byte(text, b'\n', at);
     made.push_str(part(text, at, end))?;

@@ -12,7 +12,8 @@ const NAME_MAX: usize = 246;
 /// alone and has at most 246 of them; the other bytes are the name's. None of any other name.
 #[tactic(auto, using(crate::proofs::PlainTitles::plain_named))]
 pub fn plain_first(name: &[u8]) -> Option<u8>
-    ensures title { IfSome result (λ first. template_named name.now ≡ Some (template_prefix ++ (first ∷ drop 1 name.now))) }
+    ensures title { IfSome result (λ first.
+        template_named name.now ≡ Some (template_prefix ++ (first ∷ drop 1 name.now))) }
     ensures some { IfSome result (λ first. 0 < length name.now) }
     ensures plain { MatchOption result (is_plain name.now ≡ false) (λ _. is_plain name.now ≡ true) }
 {

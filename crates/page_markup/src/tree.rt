@@ -67,7 +67,8 @@ fn push_block(
     requires cut { IsCharBoundary text.now at }
     ensures past { IfOk result (λ next. at < next) }
     ensures cut { IfOk result (λ next. next < length text.now → IsCharBoundary text.now next) }
-    ensures blocks { IfOk result (λ next. blocks.new.items ++ tree_from (drop next text.now) ≡ blocks.old.items ++ tree_from (drop at text.now)) }
+    ensures blocks { let whole = blocks.old.items ++ tree_from (drop at text.now) in
+        IfOk result (λ next. blocks.new.items ++ tree_from (drop next text.now) ≡ whole) }
 {
     let (line, end) = line::line_at(text, at);
     match line {

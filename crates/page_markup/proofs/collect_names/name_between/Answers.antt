@@ -1,4 +1,4 @@
-use Rattle.std.proofs.Common.{◌≡◌, ◌∙◌, ap, subst, IfOk}
+use Rattle.std.proofs.Common.{◌≡◌, ◌∙◌, subst, IfOk}
 use Rattle.wiki_model.specs.Html.{template_named}
 use Rattle.page_markup.proofs.collect_names.name_between.Goals as goal
 

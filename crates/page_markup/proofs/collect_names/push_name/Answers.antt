@@ -1,4 +1,4 @@
-use Rattle.std.proofs.Common.{◌≡◌, ◌∙◌, ◌+◌, ap, length, subst}
+use Rattle.std.proofs.Common.{◌≡◌, ◌∙◌, ap, length, subst}
 use Rattle.std.specs.Prelude.{codes}
 use Rattle.wiki_model.specs.Html.{bracketed, template_named}
 use Rattle.page_markup.specs.ClosingPlaces.{between, cut_within}
