@@ -6,8 +6,8 @@ use Rattle.wiki_model.specs.declared.Put.{Put}
 use Rattle.wiki_model.specs.Titles.{Title}
 use Rattle.wiki_model.specs.Cache.{Cached}
 use Rattle.wan_cache.specs.declared.cache_row.CacheRow.{CacheRow}
-use Rattle.wan_cache.specs.CacheRow.{floor_in, last_use, StoresAt, RaisesAt}
-use Rattle.wan_cache.specs.MapCache.{MapState, row_in, used_in, MakesRoom, Evicts, LeavesFloor, KeepsOthers, Renews, HoldsKey, HoldsAll, HoldsKeyOrAll, IsFloorOfGone, StaysOrGoes, Uses, Stored, Purged, PurgedAll, PutDoes, PurgeDoes}
+use Rattle.wan_cache.specs.CacheRow.{floor_in, last_use}
+use Rattle.wan_cache.specs.MapCache.{MapState, row_in, used_in, MakesRoom, Evicts, LeavesFloor, KeepsOthers, Renews, HoldsKeyOrAll, IsFloorOfGone, StaysOrGoes, Uses, Stored, PutDoes, PurgeDoes}
 use Rattle.wan_cache.proofs.Claimed.{renewed_use}
 use Rattle.wan_cache.proofs.Puts.{renewed_floor, stored_floor, stored_use, purged_floor, raised_use, dropped_floor}
 

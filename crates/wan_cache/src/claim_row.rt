@@ -26,7 +26,8 @@ pub(crate) fn claim<P: Drop>(
     ensures known { IsInOrder (used_at rows.new) (key_in uses.new.keys) }
     ensures fits { btree_map_len rows.new ≤ capacity }
     ensures ok { IfOk result (λ gone. Claims (row_at rows.old) (row_at rows.new) key.now uses.old.next gone) }
-    ensures oldest { OnOk result (MakesRoom (used_at rows.old) (used_at rows.new) key.now (btree_map_len rows.old) capacity) }
+    ensures oldest { let count = btree_map_len rows.old in
+        OnOk result (MakesRoom (used_at rows.old) (used_at rows.new) key.now count capacity) }
     ensures err { OnErr result (rows.new.entries ≡ rows.old.entries) }
 {
     match last_use(rows, key) {
@@ -60,7 +61,9 @@ fn claim_old<P: Drop>(
     ensures known { IsInOrder (used_at rows.new) (key_in uses.new.keys) }
     ensures len { btree_map_len rows.new ≡ btree_map_len rows.old }
     ensures ok { OnOk result (Claims (row_at rows.old) (row_at rows.new) key.now uses.old.next 0) }
-    ensures oldest { OnOk result ((count capacity : ℕ) → MakesRoom (used_at rows.old) (used_at rows.new) key.now count capacity) }
+    ensures oldest { let uses = used_at rows.old in
+        let new_uses = used_at rows.new in
+        OnOk result ((count capacity : ℕ) → MakesRoom uses new_uses key.now count capacity) }
     ensures err { OnErr result (rows.new.entries ≡ rows.old.entries) }
 {
     let used = uses.claim(key)?;
@@ -96,7 +99,8 @@ fn claim_new<P: Drop>(
     ensures known { IsInOrder (used_at rows.new) (key_in uses.new.keys) }
     ensures fits { btree_map_len rows.new ≤ capacity }
     ensures ok { IfOk result (λ gone. Claims (row_at rows.old) (row_at rows.new) key.now uses.old.next gone) }
-    ensures oldest { OnOk result (MakesRoom (used_at rows.old) (used_at rows.new) key.now (btree_map_len rows.old) capacity) }
+    ensures oldest { let count = btree_map_len rows.old in
+        OnOk result (MakesRoom (used_at rows.old) (used_at rows.new) key.now count capacity) }
     ensures err { OnErr result (rows.new.entries ≡ rows.old.entries) }
 {
     let first = victim(uses, rows.len(), capacity);
@@ -157,7 +161,8 @@ fn evict<P: Drop>(
 ) -> Moment
     ensures rows { Goes (row_at rows.old) (row_at rows.new) (key_in uses.old.keys number) }
     ensures floor { result ≡ floor_under (row_at rows.old) (key_in uses.old.keys number) }
-    ensures len { (key : List ℕ) → key_in uses.old.keys number ≡ Some key → IsSome (used_at rows.old key) → btree_map_len rows.new + 1 ≡ btree_map_len rows.old }
+    ensures len { (key : List ℕ) → key_in uses.old.keys number ≡ Some key → IsSome (used_at rows.old key)
+        → btree_map_len rows.new + 1 ≡ btree_map_len rows.old }
     ensures uses { ForgetsUse uses.old uses.new number }
 {
     match uses.forget(number) {

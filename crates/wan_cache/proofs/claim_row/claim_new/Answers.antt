@@ -1,4 +1,4 @@
-use Rattle.std.proofs.Common.{arith, ◌≡◌, ◌<◌, ◌≤◌, ◌⊎◌, inl, inr, ℕ, None, Some, List, subst, ap, sym}
+use Rattle.std.proofs.Common.{arith, ◌≡◌, ◌<◌, ◌≤◌, ◌⊎◌, inl, inr, ℕ, None, Some, List, subst, ap}
 use Rattle.std.specs.BTreeMap.{btree_map_len}
 use Rattle.wan_cache.specs.RecentUses.{key_in}
 use Rattle.wan_cache.specs.MapCache.{row_at, used_at}
