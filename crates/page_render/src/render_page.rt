@@ -93,7 +93,8 @@ fn write_page(
     markup: u8,
 ) -> Result<(), AllocError>
     requires { writer.old.included ≡ 0 }
-    ensures { IfOk result (λ _. writer.new.html ≡ page_after writer.old markup title.now page.now (option_copied notice.entry)) }
+    ensures { let whole = page_after writer.old markup title.now page.now (option_copied notice.entry) in
+        IfOk result (λ _. writer.new.html ≡ whole) }
 {
     writer.put(b"<!DOCTYPE html>\n")?;
     write_title(writer, b"<title>", b"</title>\n", title)?;

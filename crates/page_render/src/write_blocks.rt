@@ -61,7 +61,8 @@ fn write_heading(
     depth: u8,
 ) -> Result<(), AllocError>
     requires { level ≤ 6 }
-    ensures { IfOk result (λ _. writer.new ≡ then_reads writer.old (in_heading level (reads writer.old depth middle.now))) }
+    ensures { let heading = in_heading level (reads writer.old depth middle.now) in
+        IfOk result (λ _. writer.new ≡ then_reads writer.old heading) }
 {
     let opening = heading_opening(level);
     write_between(writer, &opening, &heading_closing(level), middle, depth)?;
@@ -151,7 +152,8 @@ fn write_between(
     text: &str,
     depth: u8,
 ) -> Result<(), AllocError>
-    ensures { IfOk result (λ _. writer.new ≡ then_reads writer.old (between opening.now closing.now (reads writer.old depth text.now))) }
+    ensures { let whole = between opening.now closing.now (reads writer.old depth text.now) in
+        IfOk result (λ _. writer.new ≡ then_reads writer.old whole) }
 {
     writer.put(opening)?;
     writer.write_whole(text, depth)?;
