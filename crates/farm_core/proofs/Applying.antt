@@ -1,5 +1,5 @@
 -- Applying entries goes on with every run.
-use Rattle.std.proofs.Common.{◌≡◌, ℕ, zero, suc, ◌+◌, ◌-◌, ◌<◌, ◌≤◌, ◌^◌, min, Bool, true, false, List, [], ◌∷◌, ◌++◌, length, map, take, drop, Option, Some, None, IfSome, Result, Ok, Err, refl, sym, ap, subst, ◌∙◌, arith, append-nil}
+use Rattle.std.proofs.Common.{◌≡◌, ℕ, zero, suc, ◌+◌, ◌≤◌, min, List, [], ◌∷◌, length, map, take, Option, Some, None, IfSome, Result, Ok, Err, refl, sym, ap, subst, ◌∙◌, arith, append-nil}
 use Rattle.std.specs.Prelude.{option_map, slice_get, slice_set, unwrap_or, IfOk, OnOk, IsErrOf}
 use Rattle.std.proofs.lemmas.Option.{slice_get-map}
 use Rattle.wiki_model.specs.declared.Region.{Region}
@@ -7,21 +7,16 @@ use Rattle.wiki_model.specs.declared.Region.TheVariants.{Home, West}
 use Rattle.wiki_model.specs.Bytes.{Bytes}
 use Rattle.wiki_model.specs.History.{Entry, entry_at}
 use Rattle.wiki_model.specs.Cache.{CacheMap}
-use Rattle.wiki_model.specs.World as world
-use Rattle.wiki_model.specs.World.{World, Setting, site, moment, request_at, with_applied, applied_number}
+use Rattle.wiki_model.specs.World.{World, Setting, site, request_at, with_applied, applied_number}
 use Rattle.wiki_model.specs.Answers.{Answer, NoMemory, StoreFault}
-use Rattle.wiki_model.specs.Steps as steps
-use Rattle.wiki_model.specs.Steps.{Step, Rose, Applies, reach}
+use Rattle.wiki_model.specs.Steps.{Step, Rose, Applies}
 use Rattle.wiki_model.specs.Runs.{One, with_faults, CountsFaults}
 use Rattle.wiki_model.specs.Caches.{CacheStands}
-use Rattle.wiki_model.specs.Consistent.{IsConsistent}
 use Rattle.wiki_model.proofs.FrameLaws.{stands-grown, if_map}
 use Rattle.revision_keeper.specs.declared.keeper.KeepFault.{KeepFault}
 use Rattle.revision_keeper.specs.declared.keeper.KeepFault.TheVariants as fault
-use Rattle.revision_keeper.specs.Causes.{HasFault}
 use Rattle.replica_apply.specs.Replica.{ReplicaState, IsPrefix}
 use Rattle.chronology_store.specs.AsModel.{rows_in}
-use Rattle.edit_core.specs.AsModel.{refused_of, refusal_of}
 use Rattle.purge_relay.specs.LedgerRow.{receipt_at}
 use Rattle.purge_relay.specs.Ledger.{row_at}
 use Rattle.farm_core.specs.RequestMap.{open_at}
@@ -29,13 +24,13 @@ use Rattle.farm_core.specs.FarmParts.{FarmParts, IsFarm}
 use Rattle.region_state.specs.RegionState.{RegionParts, with_replica}
 use Rattle.farm_core.specs.Agreement as agreed
 use Rattle.farm_core.specs.Agreement.{Agrees, RegionStands, config_of, ArePrefixes}
-use Rattle.region_state.specs.ApplyEntries.{HasApplied, AppliesTo}
+use Rattle.region_state.specs.ApplyEntries.{HasApplied}
 use Rattle.farm_core.specs.ApplyStep.{AppliesIn, apply_answer}
 use Rattle.farm_core.specs.ViewSteps.{region_at, other_region}
 use Rattle.farm_core.proofs.Waiting.{site_of}
 use Rattle.farm_core.specs.Runs.{GoesFrom, LeadsTo}
 use Rattle.farm_core.proofs.Following.{Follows as FollowsWorld, agree-later}
-use Rattle.farm_core.proofs.Standing.{IsStill, stands-still, rows_moments, applied-within}
+use Rattle.farm_core.proofs.Standing.{stands-still, rows_moments, applied-within}
 
 -- the region
 
@@ -96,9 +91,16 @@ apply_goes {K} {S} content faults cache_of old keeper home west r replica count 
         let x : World = with_faults (faults keeper) (with_applied Home replica d.after.applied v) in
         let follows : FollowsWorld v x = record { more = []; history = sym (append-nil v.history); setting = refl; issued = λ p t q i. i } in
         subst (λ (f : FarmParts K S). Agrees content faults cache_of f x) (λ i. record old { keeper = keeper; home = sym now i; west = sym other i }) (record {
-          plan = a.plan; opened = a.opened; history = d.same ∙ a.history; counted = omega arith; messages = a.messages; receipts = receipts_home;
+          plan = a.plan;
+          opened = a.opened;
+          history = d.same ∙ a.history;
+          counted = omega arith;
+          messages = a.messages;
+          receipts = receipts_home;
           requests = λ id. agree-later v x follows (open_at old.requests id) (request_at v id) (a.requests id);
-          home_moment = a.home_moment; west_moment = a.west_moment; beat = a.beat;
+          home_moment = a.home_moment;
+          west_moment = a.west_moment;
+          beat = a.beat;
           home = site_applied cache_of old.home replica d.after v x Home refl refl refl refl refl refl refl prefix a.home;
           west = stands-still cache_of old.west v x West (record { history = refl; setting = refl; markup = refl; up = omega arith; applied = refl; heard = refl; events = refl }) a.west;
         })
@@ -110,9 +112,16 @@ apply_goes {K} {S} content faults cache_of old keeper home west r replica count 
         let x : World = with_faults (faults keeper) (with_applied West replica d.after.applied v) in
         let follows : FollowsWorld v x = record { more = []; history = sym (append-nil v.history); setting = refl; issued = λ p t q i. i } in
         subst (λ (f : FarmParts K S). Agrees content faults cache_of f x) (λ i. record old { keeper = keeper; home = sym other i; west = sym now i }) (record {
-          plan = a.plan; opened = a.opened; history = d.same ∙ a.history; counted = omega arith; messages = a.messages; receipts = receipts_west;
+          plan = a.plan;
+          opened = a.opened;
+          history = d.same ∙ a.history;
+          counted = omega arith;
+          messages = a.messages;
+          receipts = receipts_west;
           requests = λ id. agree-later v x follows (open_at old.requests id) (request_at v id) (a.requests id);
-          home_moment = a.home_moment; west_moment = a.west_moment; beat = a.beat;
+          home_moment = a.home_moment;
+          west_moment = a.west_moment;
+          beat = a.beat;
           home = stands-still cache_of old.home v x Home (record { history = refl; setting = refl; markup = refl; up = omega arith; applied = refl; heard = refl; events = refl }) a.home;
           west = site_applied cache_of old.west replica d.after v x West refl refl refl refl refl refl refl prefix a.west;
         })
@@ -122,9 +131,15 @@ apply_goes {K} {S} content faults cache_of old keeper home west r replica count 
         receipts_west West n = a.receipts West n
 
     leads : (now : Option Answer) → Applies r replica count v now (with_applied r replica d.after.applied v) → CountsFaults v.faults (faults keeper) (One now) → Goes now
-    leads now row counts = (w, record {
-      takes = row; counts = counts; later = d.cause.later; agrees = agrees r d.now d.other has.prefix;
-    })
+    leads now row counts = (
+      w,
+      record {
+        takes = row;
+        counts = counts;
+        later = d.cause.later;
+        agrees = agrees r d.now d.other has.prefix;
+      },
+    )
 
     by : (m : Result (Unit {0}) KeepFault) → made ≡ m → Goes answer
     by (Ok x) is =
@@ -149,7 +164,9 @@ apply_kept {K} {S} content faults cache_of old keeper home west r replica count 
   where
     kept : home.cache ≡ old.home.cache → home.positions ≡ old.home.positions → west.cache ≡ old.west.cache → IsFarm content cache_of (record old { keeper = keeper; home = home; west = west })
     kept home_cache rows west_cache = record {
-      home_small = k.home_small; west_small = k.west_small; delay = k.delay;
+      home_small = k.home_small;
+      west_small = k.west_small;
+      delay = k.delay;
       stamps = subst (λ o. IfSome o (λ h. Rattle.wiki_model.specs.History.stamp_at h (length h) ≤ old.moments.home)) (sym d.same) k.stamps;
       home_before = subst (λ o. IfSome o (λ c. (cache_of c).greatest ≤ old.moments.home)) (sym home_cache) k.home_before;
       west_before = subst (λ o. IfSome o (λ c. (cache_of c).greatest ≤ old.moments.west)) (sym west_cache) k.west_before;

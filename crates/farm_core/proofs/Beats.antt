@@ -1,13 +1,12 @@
 -- A beat goes on with every run.
-use Rattle.std.proofs.Common.{◌≡◌, ℕ, zero, suc, ◌+◌, ◌<◌, ◌≤◌, List, [], ◌∷◌, ◌++◌, length, drop, Option, Some, None, option_map, IfSome, refl, sym, ap, subst, ◌∙◌, arith}
+use Rattle.std.proofs.Common.{◌≡◌, ℕ, zero, suc, ◌≤◌, List, [], ◌∷◌, ◌++◌, length, drop, Option, Some, None, option_map, IfSome, refl, sym, ap, subst, ◌∙◌, arith}
 use Rattle.wiki_model.specs.declared.Region.{Region}
 use Rattle.wiki_model.specs.declared.Region.TheVariants.{Home, West}
 use Rattle.wiki_model.specs.Bytes.{Bytes}
 use Rattle.wiki_model.specs.History.{Entry, Beat, Committed, IsHistory, stamp_at}
 use Rattle.wiki_model.specs.Cache.{CacheMap}
 use Rattle.wiki_model.specs.World.{World, site, moment, with_entry, request_at}
-use Rattle.wiki_model.specs.Consistent.{IsConsistent}
-use Rattle.wiki_model.specs.Answers.{Answer, Page, EditSaved, NoPage, Conflict, TokenUsed, Lagging, Miss, NotOpen, Unknown, Gone, StoreFault, NoMemory}
+use Rattle.wiki_model.specs.Answers.{Answer, StoreFault, NoMemory}
 use Rattle.wiki_model.specs.Steps.{MakeBeat}
 use Rattle.wiki_model.specs.Runs.{One, with_faults}
 use Rattle.wiki_model.proofs.HistoryLaws.{history-push_beat, stamp-last, length-push}
@@ -16,10 +15,10 @@ use Rattle.purge_relay.specs.Ledger.{row_at}
 use Rattle.farm_core.specs.RequestMap.{open_at}
 use Rattle.farm_core.specs.FarmParts.{FarmParts}
 use Rattle.farm_core.specs.Agreement.{Agrees, receipt_in, last_beat_in}
-use Rattle.farm_core.specs.Runs.{GoesFrom, LeadsTo}
+use Rattle.farm_core.specs.Runs.{GoesFrom}
 use Rattle.farm_core.specs.AppendBeat.{Beats}
 use Rattle.farm_core.proofs.Following.{Follows, agree-later}
-use Rattle.farm_core.proofs.Standing.{IsEntry, stands-entry}
+use Rattle.farm_core.proofs.Standing.{stands-entry}
 use Rattle.farm_core.proofs.Quiet.{IsQuiet, agrees-quiet, quiet-follows}
 
 pub drop-more : (h : List Entry) (e : Entry) (n : ℕ) → n ≤ length h → drop n (h ++ e ∷ []) ≡ drop n h ++ e ∷ []

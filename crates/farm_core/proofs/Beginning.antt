@@ -1,27 +1,23 @@
 -- The step begin goes on with every run.
-use Rattle.std.proofs.Common.{◌≡◌, ℕ, zero, suc, ◌+◌, ◌≤◌, ◌⊎◌, inl, inr, false, List, [], ◌∷◌, ◌++◌, length, map, Option, Some, None, IfSome, Result, Ok, Err, refl, sym, ap, subst, ◌∙◌, arith, append-nil}
-use Rattle.std.specs.Prelude.{option_map, IsSome, slice_get}
-use Rattle.wiki_model.specs.declared.Region.{Region}
+use Rattle.std.proofs.Common.{◌≡◌, ℕ, suc, ◌+◌, ◌≤◌, false, List, [], ◌∷◌, ◌++◌, length, Option, Some, None, IfSome, Result, Ok, Err, refl, sym, ap, subst, ◌∙◌, arith, append-nil}
 use Rattle.wiki_model.specs.declared.Region.TheVariants.{Home, West}
 use Rattle.wiki_model.specs.Bytes.{Bytes}
 use Rattle.wiki_model.specs.History.{Entry, Edit}
 use Rattle.wiki_model.specs.Cache.{CacheMap}
 use Rattle.wiki_model.specs.World as world
 use Rattle.wiki_model.specs.World.{World, Setting, site, moment, request_at, without_request, message_at}
-use Rattle.wiki_model.specs.HoldOff.{IsIssued}
 use Rattle.wiki_model.specs.Answers.{Answer, NotOpen, NoMemory, StoreFault, EditSaved, Conflict, TokenUsed, edit_answer}
 use Rattle.wiki_model.specs.Steps as steps
 use Rattle.wiki_model.specs.Steps.{Step, Decided, Begins, begun, next_message}
 use Rattle.wiki_model.specs.Runs.{One, with_faults, CountsFaults}
 use Rattle.wiki_model.specs.Caches.{CacheStands}
-use Rattle.wiki_model.specs.Positions.{Rows, RowsStand}
+use Rattle.wiki_model.specs.Positions.{RowsStand}
 use Rattle.wiki_model.proofs.StepStandsLaws.{begun-home, begun-west}
 use Rattle.wiki_model.proofs.HistoryLaws.{push-at}
 use Rattle.wiki_model.proofs.FrameLaws.{stands-grown, if_map}
 use Rattle.purge_relay.specs.declared.message.Body.TheVariants.{Purge}
-use Rattle.purge_relay.specs.declared.ledger_row.LedgerRow.{LedgerRow}
-use Rattle.purge_relay.specs.LedgerRow.{new_row, with_receipt, receipt_at}
-use Rattle.purge_relay.specs.Ledger.{LedgerState, row_at, next_number, changed_at}
+use Rattle.purge_relay.specs.LedgerRow.{new_row, with_receipt}
+use Rattle.purge_relay.specs.Ledger.{LedgerState, row_at, changed_at}
 use Rattle.chronology_store.specs.ChronologyStore.{Positions}
 use Rattle.chronology_store.specs.AsModel.{rows_in}
 use Rattle.chronology_store.proofs.ModelRows.{reserved_rows}
@@ -31,20 +27,17 @@ use Rattle.edit_core.specs.declared.edit_ask.EditRefusal.TheVariants as refusal
 use Rattle.edit_core.specs.declared.begun_edit.BegunEdit.{BegunEdit}
 use Rattle.edit_core.specs.declared.begun_edit.Begun.{Begun}
 use Rattle.edit_core.specs.declared.begun_edit.Begun.TheVariants.{Started, Already}
-use Rattle.edit_core.specs.AsModel.{edit_of, saved_of, refused_of}
+use Rattle.edit_core.specs.AsModel.{edit_of, saved_of}
 use Rattle.edit_core.specs.EditState.{EditState, HasStoreFault, state_of}
 use Rattle.edit_core.specs.BeginEdit as edits
-use Rattle.farm_base.specs.AsModel.{bounds_of}
 use Rattle.farm_core.specs.RequestMap.{Entries, Places, open_at, arrived_edit, IsBegun}
-use Rattle.farm_core.specs.RequestMap as requests
 use Rattle.farm_core.specs.declared.open_request.OpenRequest.TheVariants as point
 use Rattle.farm_core.specs.FarmParts.{FarmParts}
 use Rattle.region_state.specs.RegionState.{RegionParts}
-use Rattle.farm_core.specs.RelaySteps.{Receives, TakesRow}
+use Rattle.farm_core.specs.RelaySteps.{TakesRow}
 use Rattle.region_state.specs.RegionState.{with_positions}
-use Rattle.farm_core.specs.EditSteps.{EndsBegin, BeginsEdit, BeginsTo, LeavesAll}
-use Rattle.farm_core.specs.Agreement as agreed
-use Rattle.farm_core.specs.Agreement.{Agrees, RegionStands}
+use Rattle.farm_core.specs.EditSteps.{EndsBegin, BeginsTo}
+use Rattle.farm_core.specs.Agreement.{Agrees}
 use Rattle.farm_core.specs.Runs.{GoesFrom, LeadsTo}
 use Rattle.farm_core.proofs.Following.{Follows, issued-more}
 use Rattle.farm_core.proofs.Standing.{rows_moments, site_grown}
@@ -77,29 +70,37 @@ begin_goes {K} {S} content faults cache_of old keeper ledger_now home after id a
     closed_by edit mid rows said there count same (is, ledger_is, home_is, places) decided counts =
         subst Goes (sym is)
         (closes content faults cache_of old keeper ledger_now home after id v (Step.Begin id) (Some said) (ap (λ (s : EditState). s.content) same) count (ap (λ (b : LedgerState). b.rows) (ledger_is ∙ ap (λ (s : EditState). s.ledger) same))
-          (home_is ∙ ap (λ (s : EditState). with_positions s.positions old.home) same) places a
-          (row edit (Some said) (without_request id v) there decided) counts)
+        (home_is ∙ ap (λ (s : EditState). with_positions s.positions old.home) same) places a
+        (row edit (Some said) (without_request id v) there decided) counts)
 
     starts : (ask : EditAsk) (begun_now : BegunEdit) (mid : LedgerState) (rows : Positions) → request_at v id ≡ Some (world.EditArrived (edit_of ask)) → faults old.keeper ≤ faults keeper
         → edits.Starts (state_of (content old.keeper) old.ledger old.home.positions) (state_of (content keeper) mid rows) (edit_of ask) now delay begun_now
         → EndsBegin cache_of (with_positions rows old.home) home mid ledger_now now id old.requests after answer (Ok (Started begun_now)) → Goes answer
     starts ask begun_now mid rows there count s (said, receives, places) =
-        subst Goes (sym said)
-        (w, record {
-          takes = row (edit_of ask) None (begun id (edit_of ask) v) there (free, refl);
-          counts = omega (arith, fewer, count);
-          later = count;
-          agrees = subst (λ (h : RegionParts S). Agrees content faults cache_of (record old { keeper = keeper; ledger = ledger_now; home = h; requests = after }) w) (sym took.rest) (record {
-              plan = a.plan; opened = a.opened; history = s.content ∙ a.history; counted = omega arith;
-              messages = ledger.messages; receipts = ledger.receipts;
+        subst Goes (sym said) (
+          w,
+          record {
+            takes = row (edit_of ask) None (begun id (edit_of ask) v) there (free, refl);
+            counts = omega (arith, fewer, count);
+            later = count;
+            agrees = subst (λ (h : RegionParts S). Agrees content faults cache_of (record old { keeper = keeper; ledger = ledger_now; home = h; requests = after }) w) (sym took.rest) (record {
+              plan = a.plan;
+              opened = a.opened;
+              history = s.content ∙ a.history;
+              counted = omega arith;
+              messages = ledger.messages;
+              receipts = ledger.receipts;
               requests = placed v w old.requests after id (point.EditBegun begun_now) (world.EditBegun (edit_of ask) (next_message v)) follows refl places (edit_of ask, next_message v, refl, begun_is) a.requests;
-              home_moment = a.home_moment; west_moment = a.west_moment; beat = a.beat;
+              home_moment = a.home_moment;
+              west_moment = a.west_moment;
+              beat = a.beat;
               home = site_grown cache_of old.home rows (Some cache) v w Home [] fits (sym (append-nil v.history)) refl refl refl
                   (subst (RowsStand w Home) (sym (reserved_rows ask.client old.home.positions rows s.positions)) (rows_moments v w Home (rows_in old.home.positions) refl refl (omega arith) a.home.positions)) refl stood a.home;
               west = site_grown cache_of old.west old.west.positions old.west.cache v w West [] fits (sym (append-nil v.history)) refl refl refl (rows_moments v w West (rows_in old.west.positions) refl refl (omega arith) a.west.positions) a.west.there
                   (if_map (λ x. CacheStands v West (cache_of x)) (λ x. CacheStands w West (cache_of x)) old.west.cache (λ x s. stands-grown (begun id (edit_of ask) v) w West (cache_of x) (record { more = []; history = sym (append-nil v.history); setting = refl; events = refl; moment = omega arith }) (begun-west id (edit_of ask) v (cache_of x) s)) a.west.cache) a.west;
             });
-        })
+          },
+        )
       where
         w : World
         w = with_faults (faults keeper) (begun id (edit_of ask) v)
@@ -147,7 +148,10 @@ begin_goes {K} {S} content faults cache_of old keeper ledger_now home after id a
 
         begun_is : IsBegun w begun_now (edit_of ask) (next_message v)
         begun_is = record {
-          ask = s.begun_is.ask; title = s.begun_is.again; purge_is = s.begun_is.purge ∙ number; issued = moment Home v;
+          ask = s.begun_is.ask;
+          title = s.begun_is.again;
+          purge_is = s.begun_is.purge ∙ number;
+          issued = moment Home v;
           is_issued = (m, last, refl);
           due = s.begun_is.due ∙ ap (λ (b : Rattle.wiki_model.specs.Limits.Bounds). moment Home v + b.commit_delay) a.plan.bounds;
         }
@@ -176,7 +180,7 @@ begin_goes {K} {S} content faults cache_of old keeper ledger_now home after id a
         let fewer = a.counted in let count = leave.1 in
         subst Goes (sym none.0)
         (leaves content faults cache_of old keeper ledger_now home after v (Step.Begin id) (Some (NotOpen id)) leave none.1 a
-          (no_point (steps.arrived_edit (request_at v id)) id v v (λ e. Begins id e v (Some (NotOpen id)) v) (no_arrived_edit v (open_at old.requests id) (request_at v id) (a.requests id) is) refl) (omega (arith, fewer, count)))
+        (no_point (steps.arrived_edit (request_at v id)) id v v (λ e. Begins id e v (Some (NotOpen id)) v) (no_arrived_edit v (open_at old.requests id) (request_at v id) (a.requests id) is) refl) (omega (arith, fewer, count)))
     by (Some ask) is begins =
         let there = is_arrived_edit v (open_at old.requests id) (request_at v id) ask (a.requests id) is in
         ends ask begins.mid begins.positions there begins.result begins.cause begins.begins begins.ends

@@ -1,14 +1,7 @@
 -- What becomes of a message that is carried, and what a farm keeps of it.
-use Rattle.std.proofs.Common.{◌≡◌, ℕ, zero, suc, ◌+◌, ◌-◌, ◌≤◌, ◌⊎◌, inl, inr, Bool, true, false, cond, List, [], ◌∷◌, Option, Some, None, IfSome, refl, sym, ap, subst, ◌∙◌, arith, nat_eq}
-use Rattle.std.specs.Prelude.{option_map, slice_get, map}
-use Rattle.std.proofs.lemmas.Option.{slice_get-map}
-use Rattle.purge_relay.specs.AsModel.{row_message}
-use Rattle.farm_core.proofs.Ledgers.{receipts_leave}
-use Rattle.std.proofs.lemmas.Bool.Decides.{nat_tests}
-use Rattle.wiki_model.specs.declared.Region.{Region}
-use Rattle.wiki_model.specs.declared.Region.TheVariants.{Home, West}
+use Rattle.std.proofs.Common.{◌≡◌, ℕ, ◌≤◌, inl, inr, Bool, true, false, cond, List, Option, Some, None, refl, sym, ap, subst, arith}
+use Rattle.std.specs.Prelude.{option_map}
 use Rattle.wiki_model.specs.Bytes.{Bytes}
-use Rattle.wiki_model.specs.Titles.{class_of}
 use Rattle.wiki_model.specs.History.{Entry, is_shared_title}
 use Rattle.wiki_model.specs.Cache.{CacheMap}
 use Rattle.wiki_model.specs.CacheCalls.{TakesPurge}
@@ -17,15 +10,14 @@ use Rattle.wiki_model.specs.Answers.{Answer}
 use Rattle.purge_relay.specs.declared.message.Body.{Body}
 use Rattle.purge_relay.specs.declared.message.Body.TheVariants.{Purge, Position}
 use Rattle.purge_relay.specs.declared.ledger_row.LedgerRow.{LedgerRow}
-use Rattle.purge_relay.specs.LedgerRow.{with_receipt, received_by, is_dropped_row}
-use Rattle.purge_relay.specs.Ledger.{LedgerState, row_at, with_row, changed_at}
+use Rattle.purge_relay.specs.LedgerRow.{is_dropped_row}
+use Rattle.purge_relay.specs.Ledger.{LedgerState, row_at}
 use Rattle.purge_relay.specs.AsModel.{body_of}
 use Rattle.farm_core.specs.declared.relay_steps.Carriage.{Carriage}
 use Rattle.farm_core.specs.declared.relay_steps.Carriage.TheVariants as carriage
-use Rattle.purge_relay.specs.LedgerRow.{IsSmallBody}
 use Rattle.farm_core.specs.FarmParts.{FarmParts, IsFarm}
 use Rattle.region_state.specs.RegionState.{RegionParts, IsBefore}
-use Rattle.farm_core.specs.RelaySteps.{Carries, CarriesIf, CarriesShown, CarriesBody, CarriesAs, IsSmallCarriage, Receives, TakesRow, TakesBody, Hears, carriage_of, carriage_in, shows}
+use Rattle.farm_core.specs.RelaySteps.{Carries, CarriesIf, CarriesShown, CarriesBody, CarriesAs, TakesRow, TakesBody, carriage_of, carriage_in, shows}
 
 -- the two ways to say what is carried
 pub carries_as : {S : Type 0} (cache_of : S → CacheMap Bytes) (before after : RegionParts S) (old new : LedgerState) (number now : ℕ) (shown : Option world.Body) (answer : Option Answer) (found : Option LedgerRow)
@@ -67,8 +59,14 @@ carry_kept {K} {S} content cache_of old ledger_now west number answer c did k = 
   where
     kept : ledger_now.spare ≡ old.ledger.spare → IsBefore cache_of west old.moments.west → IsFarm content cache_of (record old { ledger = ledger_now; west = west })
     kept spare before = record {
-      home_small = k.home_small; west_small = k.west_small; delay = k.delay; stamps = k.stamps; home_before = k.home_before; west_before = before;
-      room = let all = k.room in omega (arith, spare, all); reserved = k.reserved;
+      home_small = k.home_small;
+      west_small = k.west_small;
+      delay = k.delay;
+      stamps = k.stamps;
+      home_before = k.home_before;
+      west_before = before;
+      room = let all = k.room in omega (arith, spare, all);
+      reserved = k.reserved;
     }
 
     same_spare : ledger_now ≡ old.ledger → ledger_now.spare ≡ old.ledger.spare

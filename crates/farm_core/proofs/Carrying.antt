@@ -1,8 +1,6 @@
 -- Carrying a message goes on with every run.
-use Rattle.std.proofs.Common.{◌≡◌, ℕ, zero, suc, ◌+◌, ◌≤◌, ◌⊎◌, inl, inr, Bool, true, false, List, [], ◌∷◌, map, Option, Some, None, IfSome, refl, sym, ap, subst, ◌∙◌, arith, append-nil}
-use Rattle.std.specs.Prelude.{option_map, bytes_eq}
-use Rattle.std.proofs.lemmas.Bool.Decides.{nat_tests}
-use Rattle.std.proofs.lemmas.Slice.Eq.{bytes_eq-Decides}
+use Rattle.std.proofs.Common.{◌≡◌, ℕ, ◌+◌, inl, inr, Bool, true, false, List, [], ◌∷◌, Option, Some, None, IfSome, refl, sym, ap, subst, ◌∙◌, arith, append-nil}
+use Rattle.std.specs.Prelude.{option_map}
 use Rattle.wiki_model.specs.declared.Region.{Region}
 use Rattle.wiki_model.specs.declared.Region.TheVariants.{Home, West}
 use Rattle.wiki_model.specs.Bytes.{Bytes}
@@ -17,7 +15,6 @@ use Rattle.wiki_model.specs.Steps.{Step, Carries as MayCarry, IsCarriable, Shows
 use Rattle.wiki_model.specs.Runs.{One, with_faults}
 use Rattle.wiki_model.specs.Consistent.{HasNumber, IsOfCommit}
 use Rattle.wiki_model.specs.Caches.{CacheStands}
-use Rattle.wiki_model.specs.Changes.{IsGrown}
 use Rattle.wiki_model.proofs.FrameLaws.{stands-grown, if_map}
 use Rattle.wiki_model.proofs.RowsLaws.{rows-hear}
 use Rattle.wiki_model.proofs.PurgeLaws.{purge-stands}
@@ -31,14 +28,13 @@ use Rattle.chronology_store.specs.PositionRow.{with_told}
 use Rattle.chronology_store.specs.ChronologyStore.{Positions, Changes}
 use Rattle.purge_relay.specs.AsModel.{row_message}
 use Rattle.farm_core.specs.RequestMap.{open_at}
-use Rattle.farm_core.specs.FarmParts.{FarmParts, with_region_cache}
+use Rattle.farm_core.specs.FarmParts.{FarmParts}
 use Rattle.region_state.specs.RegionState.{RegionParts}
 use Rattle.farm_core.specs.Agreement.{Agrees, RegionStands, receipt_in}
-use Rattle.farm_core.specs.RelaySteps.{Carries, CarriesIf, CarriesShown, CarriesBody, shows, Receives, TakesRow, TakesBody, Hears}
+use Rattle.farm_core.specs.RelaySteps.{Carries, CarriesIf, CarriesShown, CarriesBody, shows, TakesRow, TakesBody, Hears}
 use Rattle.farm_core.specs.Runs.{GoesFrom, LeadsTo}
 use Rattle.farm_core.proofs.Following.{Follows, agree-later}
 use Rattle.farm_core.proofs.Standing.{IsStill, stands-still}
-use Rattle.farm_core.proofs.Points.{AllAgree}
 use Rattle.farm_core.proofs.Quiet.{IsQuiet, agrees-quiet, quiet-follows}
 use Rattle.farm_core.proofs.Happening.{Happens, happens-event, agrees-happened}
 use Rattle.chronology_store.specs.AsModel.{rows_in}
@@ -95,14 +91,16 @@ carry_goes {K} {S} content faults cache_of old ledger_now west number shown answ
         → (w : World) × LeadsTo content faults cache_of old (record old { ledger = ledger_now; west = west }) (Step.Carry number shown) (One answer) v w
     same said is books sides counts row =
         let w : World = with_faults (faults old.keeper) v in
-        subst (λ (x : Option Answer). (u : World) × LeadsTo content faults cache_of old (record old { ledger = ledger_now; west = west }) (Step.Carry number shown) (One x) v u) (sym is)
-        (w, record {
-          takes = row;
-          counts = counts;
-          later = omega arith;
-          agrees = subst (λ (f : FarmParts K S). Agrees content faults cache_of f w) (λ i. record old { ledger = sym books i; west = sym sides i })
-              (agrees-quiet content faults cache_of old old.keeper old.requests v w quietly refl (omega arith) (λ id. agree-later v w (quiet-follows v w quietly) (open_at old.requests id) (request_at v id) (a.requests id)) a);
-        })
+        subst (λ (x : Option Answer). (u : World) × LeadsTo content faults cache_of old (record old { ledger = ledger_now; west = west }) (Step.Carry number shown) (One x) v u) (sym is) (
+          w,
+          record {
+            takes = row;
+            counts = counts;
+            later = omega arith;
+            agrees = subst (λ (f : FarmParts K S). Agrees content faults cache_of f w) (λ i. record old { ledger = sym books i; west = sym sides i })
+                (agrees-quiet content faults cache_of old old.keeper old.requests v w quietly refl (omega arith) (λ id. agree-later v w (quiet-follows v w quietly) (open_at old.requests id) (request_at v id) (a.requests id)) a);
+          },
+        )
 
     unknown : (answer ≡ Some (Unknown number)) × (ledger_now ≡ old.ledger) × (west ≡ old.west) → ((m : world.Message) → IsCarriable v number shown m → ⊥)
         → (w : World) × LeadsTo content faults cache_of old (record old { ledger = ledger_now; west = west }) (Step.Carry number shown) (One answer) v w
@@ -126,16 +124,18 @@ carry_goes {K} {S} content faults cache_of old ledger_now west number shown answ
         let follows : Follows v w = record { more = []; history = sym (append-nil v.history); setting = refl; issued = λ purge t q i. i } in
         let ledger_is : ledger_now ≡ changed_at (with_receipt West (moment West v)) number old.ledger = books ∙ ap (λ n. changed_at (with_receipt West n) number old.ledger) now in
         let told = receipts_more old.ledger West (moment West v) number title issued row there body (λ q. (site q v).events) a.receipts in
-        subst (λ (x : Option Answer). (u : World) × LeadsTo content faults cache_of old (record old { ledger = ledger_now; west = west }) (Step.Carry number shown) (One x) v u) (sym is)
-        (w, record {
-          takes = row_ok;
-          counts = a.counted;
-          later = omega arith;
-          agrees = subst (λ (f : FarmParts K S). Agrees content faults cache_of f w) (λ i. record old { ledger = sym ledger_is i; west = sym after_is i })
-              (agrees-happened content faults cache_of old old.keeper (changed_at (with_receipt West (moment West v)) number old.ledger) old.requests after v w West event happens refl (omega arith)
+        subst (λ (x : Option Answer). (u : World) × LeadsTo content faults cache_of old (record old { ledger = ledger_now; west = west }) (Step.Carry number shown) (One x) v u) (sym is) (
+          w,
+          record {
+            takes = row_ok;
+            counts = a.counted;
+            later = omega arith;
+            agrees = subst (λ (f : FarmParts K S). Agrees content faults cache_of f w) (λ i. record old { ledger = sym ledger_is i; west = sym after_is i })
+                (agrees-happened content faults cache_of old old.keeper (changed_at (with_receipt West (moment West v)) number old.ledger) old.requests after v w West event happens refl (omega arith)
                 (receipts_leave West (moment West v) number old.ledger ∙ a.messages)
                 (on_region told) (λ id. agree-later v w follows (open_at old.requests id) (request_at v id) (a.requests id)) stood a);
-        })
+          },
+        )
       where
         on_region : ((q : Region) (n : ℕ) → receipt_at q (row_at (changed_at (with_receipt West (moment West v)) number old.ledger).rows n) ≡ receipt_in (events_after West q (Received number title (moment West v)) (site q v).events) n)
             → (q : Region) (n : ℕ) → receipt_at q (row_at (changed_at (with_receipt West (moment West v)) number old.ledger).rows n) ≡ receipt_in (site q (with_faults (faults old.keeper) (receives West number title v))).events n
@@ -157,21 +157,29 @@ carry_goes {K} {S} content faults cache_of old ledger_now west number shown answ
         let of_index = subst (λ n. Changes commit.edit.client (with_told (record { index = n; position = entry; expires = stamp + 60_000 })) old.west.positions h.after) of.3 of_client in
         let of_stamp = subst (λ n. Changes commit.edit.client (with_told (record { index = commit.index; position = entry; expires = n + 60_000 })) old.west.positions h.after) of.4 of_index in
         let home_still : IsStill v w Home = record { history = refl; setting = refl; markup = refl; up = omega arith; applied = refl; heard = refl; events = refl } in
-        subst (λ (x : Option Answer). (u : World) × LeadsTo content faults cache_of old (record old { ledger = ledger_now; west = west }) (Step.Carry number shown) (One x) v u) (sym is)
-        (w, record {
-          takes = row_ok;
-          counts = a.counted;
-          later = omega arith;
-          agrees = subst (λ (f : FarmParts K S). Agrees content faults cache_of f w) (λ i. record old { ledger = sym same_ledger i; west = sym h.rest i })
-              (record {
-                plan = a.plan; opened = a.opened; history = a.history; counted = omega arith; messages = a.messages;
-                receipts = on_region;
-                requests = λ id. agree-later v w follows (open_at old.requests id) (request_at v id) (a.requests id);
-                home_moment = a.home_moment; west_moment = a.west_moment; beat = a.beat;
-                home = stands-still cache_of old.home v w Home home_still a.home;
-                west = hears_site cache_of old.west h.after v w entry commit fits.history of.1 refl refl refl refl of_stamp a.west;
-              });
-        })
+        subst (λ (x : Option Answer). (u : World) × LeadsTo content faults cache_of old (record old { ledger = ledger_now; west = west }) (Step.Carry number shown) (One x) v u) (sym is) (
+          w,
+          record {
+            takes = row_ok;
+            counts = a.counted;
+            later = omega arith;
+            agrees = subst (λ (f : FarmParts K S). Agrees content faults cache_of f w) (λ i. record old { ledger = sym same_ledger i; west = sym h.rest i })
+                (record {
+                  plan = a.plan;
+                  opened = a.opened;
+                  history = a.history;
+                  counted = omega arith;
+                  messages = a.messages;
+                  receipts = on_region;
+                  requests = λ id. agree-later v w follows (open_at old.requests id) (request_at v id) (a.requests id);
+                  home_moment = a.home_moment;
+                  west_moment = a.west_moment;
+                  beat = a.beat;
+                  home = stands-still cache_of old.home v w Home home_still a.home;
+                  west = hears_site cache_of old.west h.after v w entry commit fits.history of.1 refl refl refl refl of_stamp a.west;
+                });
+          },
+        )
       where
         on_region : (q : Region) (n : ℕ) → receipt_at q (row_at old.ledger.rows n) ≡ receipt_in (site q (with_faults (faults old.keeper) (hears West entry v))).events n
         on_region Home n = a.receipts Home n

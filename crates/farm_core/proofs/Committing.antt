@@ -1,13 +1,12 @@
 -- The step commit goes on with every run.
-use Rattle.std.proofs.Common.{◌≡◌, ℕ, zero, suc, ◌+◌, ◌-◌, ◌<◌, ◌≤◌, ◌⊎◌, inl, inr, Bool, true, false, cond, List, [], ◌∷◌, ◌++◌, length, take, drop, map, Option, Some, None, IfSome, Result, Ok, Err, refl, sym, ap, subst, ◌∙◌, arith, append-nil, nat_lt, bytes_eq}
+use Rattle.std.proofs.Common.{◌≡◌, ℕ, suc, ◌+◌, ◌≤◌, inl, inr, Bool, true, false, cond, List, [], ◌∷◌, ◌++◌, length, drop, Option, Some, None, IfSome, Result, Ok, Err, refl, sym, ap, subst, ◌∙◌, arith, append-nil, nat_lt}
 use Rattle.std.specs.Prelude.{option_map, IsSome, slice_get}
 use Rattle.wiki_model.specs.declared.Region.{Region}
 use Rattle.wiki_model.specs.declared.Region.TheVariants.{Home, West}
 use Rattle.wiki_model.specs.Bytes.{Bytes}
 use Rattle.wiki_model.specs.Titles.{Title}
 use Rattle.wiki_model.specs.History.{Entry, Edit, Commit, Beat, Committed, commit_for}
-use Rattle.wiki_model.specs.Cache.{CacheMap, IsCache}
-use Rattle.wiki_model.specs.CacheCalls.{TakesPurge}
+use Rattle.wiki_model.specs.Cache.{CacheMap}
 use Rattle.wiki_model.specs.World as world
 use Rattle.wiki_model.specs.World.{World, Setting, Site, Event, site, moment, request_at, with_entry, hears, without_request, with_message, message_at}
 use Rattle.wiki_model.specs.World.Event.{Received}
@@ -21,7 +20,7 @@ use Rattle.wiki_model.proofs.PartLaws.{commit-appends}
 use Rattle.wiki_model.specs.Runs.{One, with_faults, CountsFaults}
 use Rattle.wiki_model.specs.Consistent.{IsConsistent}
 use Rattle.wiki_model.specs.Caches.{CacheStands}
-use Rattle.wiki_model.specs.Positions.{Rows, RowsStand, TellsRow, row_for}
+use Rattle.wiki_model.specs.Positions.{RowsStand, TellsRow, row_for}
 use Rattle.wiki_model.proofs.StepStandsLaws.{appended-home, appended-west, appended-rows, appended-rows_west}
 use Rattle.wiki_model.proofs.FrameLaws.{stands-grown, if_map}
 use Rattle.purge_relay.specs.declared.message.Body.{Body}
@@ -30,36 +29,33 @@ use Rattle.purge_relay.specs.declared.ledger_row.LedgerRow.{LedgerRow}
 use Rattle.purge_relay.specs.declared.ledger.Issued.{Issued}
 use Rattle.purge_relay.specs.LedgerRow.{new_row, with_receipt, receipt_at}
 use Rattle.purge_relay.specs.Ledger.{LedgerState, row_at, next_number, changed_at, with_position}
-use Rattle.chronology_store.specs.declared.position_row.HeldPosition.{HeldPosition as Held}
 use Rattle.chronology_store.specs.PositionRow.{with_told}
 use Rattle.chronology_store.specs.ChronologyStore.{Positions, Changes}
 use Rattle.chronology_store.specs.AsModel.{rows_in}
 use Rattle.chronology_store.proofs.ModelRows.{tells_row}
 use Rattle.edit_core.specs.declared.edit_ask.CommitOutcome.{CommitOutcome}
-use Rattle.edit_core.specs.declared.edit_ask.SavedNote.{SavedNote}
 use Rattle.edit_core.specs.declared.edit_ask.EditRefusal.{EditRefusal}
 use Rattle.edit_core.specs.declared.edit_ask.EditRefusal.TheVariants as refusal
 use Rattle.edit_core.specs.declared.begun_edit.BegunEdit.{BegunEdit}
-use Rattle.edit_core.specs.AsModel.{edit_of, saved_of, refused_of}
-use Rattle.edit_core.specs.EditState.{EditState, HasStoreFault, state_of}
+use Rattle.edit_core.specs.AsModel.{edit_of, saved_of}
+use Rattle.edit_core.specs.EditState.{HasStoreFault, state_of}
 use Rattle.edit_core.specs.CommitEdit.{CommitsWithOutcome, GivesUp, Saves, second_purge}
-use Rattle.purge_relay.specs.AsModel.{row_message}
 use Rattle.farm_core.specs.RequestMap.{Entries, Places, open_at, begun_edit, IsBegun}
 use Rattle.farm_core.specs.FarmParts.{FarmParts}
 use Rattle.region_state.specs.RegionState.{RegionParts}
-use Rattle.farm_core.specs.RelaySteps.{TakesRow, TakesBody}
+use Rattle.farm_core.specs.RelaySteps.{TakesRow}
 use Rattle.region_state.specs.RegionState.{with_positions}
 use Rattle.farm_core.specs.EditSteps.{outcome_answer, second_purge_in, ReceivesSecond, CommitsTo, LeavesAll}
 use Rattle.farm_core.specs.Agreement as agreed
 use Rattle.farm_core.specs.Agreement.{Agrees, RegionStands, last_beat_in}
 use Rattle.farm_core.specs.Runs.{GoesFrom, LeadsTo}
-use Rattle.farm_core.proofs.Following.{Follows, issued-more, agree-later}
+use Rattle.farm_core.proofs.Following.{Follows, agree-later}
 use Rattle.farm_core.proofs.Standing.{rows_moments, site_grown}
 use Rattle.farm_core.proofs.Points.{AllAgree, closed, at_point, no_point, no_begun, is_begun}
 use Rattle.farm_core.proofs.Quiet.{IsQuiet, agrees-quiet, agrees-ledger, quiet-follows}
 use Rattle.farm_core.proofs.Beats.{drop-more}
 use Rattle.farm_core.proofs.Ledgers.{receipts_leave, receipts_more, events_after}
-use Rattle.farm_core.proofs.Issuing.{LedgerAgrees, issued, number_is, last_row}
+use Rattle.farm_core.proofs.Issuing.{LedgerAgrees, issued, number_is}
 
 -- The ledger after it
 
@@ -189,12 +185,16 @@ pub closes : {K S : Type 0} (content : K → Option (List Entry)) (faults : K �
 closes {K} {S} content faults cache_of old keeper ledger_now home requests id v step answer told count rows same places a takes counts =
     let w : World = with_faults (faults keeper) (without_request id v) in
     let q : IsQuiet v w = record { history = refl; setting = refl; messages = refl; home = refl; west = refl; markup = refl } in
-    let all : AllAgree w requests = closed v w old.requests requests id (quiet-follows v w q) refl places a.requests in
-    (w, record {
-      takes = takes; counts = counts; later = count;
-      agrees = subst (λ (h : RegionParts S). Agrees content faults cache_of (record old { keeper = keeper; ledger = ledger_now; home = h; requests = requests }) w) (sym same)
-          (agrees-ledger content faults cache_of (record old { keeper = keeper; requests = requests }) ledger_now w rows (agrees-quiet content faults cache_of old keeper requests v w q told (omega arith) all a));
-    })
+    let all : AllAgree w requests = closed v w old.requests requests id (quiet-follows v w q) refl places a.requests in (
+      w,
+      record {
+        takes = takes;
+        counts = counts;
+        later = count;
+        agrees = subst (λ (h : RegionParts S). Agrees content faults cache_of (record old { keeper = keeper; ledger = ledger_now; home = h; requests = requests }) w) (sym same)
+            (agrees-ledger content faults cache_of (record old { keeper = keeper; requests = requests }) ledger_now w rows (agrees-quiet content faults cache_of old keeper requests v w q told (omega arith) all a));
+      },
+    )
 
 -- a step that changes nothing, with what the keeper counted
 pub leaves : {K S : Type 0} (content : K → Option (List Entry)) (faults : K → ℕ) (cache_of : S → CacheMap Bytes) (old : FarmParts K S) (keeper : K) (ledger_now : LedgerState) (home : RegionParts S) (requests : Entries) (v : World) (step : Step) (answer : Option Answer)
@@ -203,12 +203,16 @@ pub leaves : {K S : Type 0} (content : K → Option (List Entry)) (faults : K �
     → (w : World) × LeadsTo content faults cache_of old (record old { keeper = keeper; ledger = ledger_now; home = home; requests = requests }) step (One answer) v w
 leaves {K} {S} content faults cache_of old keeper ledger_now home requests v step answer (told, count, books, same) stay a takes counts =
     let w : World = with_faults (faults keeper) v in
-    let q : IsQuiet v w = record { history = refl; setting = refl; messages = refl; home = refl; west = refl; markup = refl } in
-    (w, record {
-      takes = takes; counts = counts; later = count;
-      agrees = subst (λ (f : FarmParts K S). Agrees content faults cache_of f w) (λ i. record old { keeper = keeper; ledger = sym books i; home = sym same i; requests = sym stay i })
-          (agrees-quiet content faults cache_of old keeper old.requests v w q told (omega arith) (λ i. agree-later v w (quiet-follows v w q) (open_at old.requests i) (request_at v i) (a.requests i)) a);
-    })
+    let q : IsQuiet v w = record { history = refl; setting = refl; messages = refl; home = refl; west = refl; markup = refl } in (
+      w,
+      record {
+        takes = takes;
+        counts = counts;
+        later = count;
+        agrees = subst (λ (f : FarmParts K S). Agrees content faults cache_of f w) (λ i. record old { keeper = keeper; ledger = sym books i; home = sym same i; requests = sym stay i })
+            (agrees-quiet content faults cache_of old keeper old.requests v w q told (omega arith) (λ i. agree-later v w (quiet-follows v w q) (open_at old.requests i) (request_at v i) (a.requests i)) a);
+      },
+    )
 
 -- home's cache, where a second purge is received
 second_row : (rows : List LedgerRow) (edit : Edit) (purge : ℕ) (v : World) → row_at (late_rows rows edit purge v) (length rows + 1) ≡ Some (new_row (length rows + 1) (Purge (length rows + 1) edit.title (moment Home v)))
@@ -270,7 +274,7 @@ commit_goes {K} {S} content faults cache_of old keeper ledger_now home requests 
         tells : TellsRow (edit_of begun.ask).client (row_for (next_entry v) (next_commit v (edit_of begun.ask) begun.issued.purge)) (rows_in old.home.positions) (rows_in rows)
         tells =
             let changes = subst (λ n. Changes (edit_of begun.ask).client (with_told (record { index = n; position = next_entry v; expires = now + 60_000 })) old.home.positions rows) index
-                (subst (λ n. Changes (edit_of begun.ask).client (with_told (record { index = outcome.note.index; position = n; expires = now + 60_000 })) old.home.positions rows) entry s.positions) in
+            (subst (λ n. Changes (edit_of begun.ask).client (with_told (record { index = outcome.note.index; position = n; expires = now + 60_000 })) old.home.positions rows) entry s.positions) in
             tells_row (edit_of begun.ask).client (record { index = (next_commit v (edit_of begun.ask) begun.issued.purge).index; position = next_entry v; expires = now + 60_000 }) old.home.positions rows changes
 
         late : is_late v begun.issued.purge ≡ nat_lt begun.due now
@@ -283,17 +287,19 @@ commit_goes {K} {S} content faults cache_of old keeper ledger_now home requests 
             → Goes (EditSaved (saved_of outcome.note))
         ends cache home_is some stands books =
             let w : World = with_faults (faults keeper) (without_request id (appended edit purge v)) in
-            let fewer = a.counted in
-            (w, record {
-              takes = subst (λ n. steps.Allows (Step.CommitEdit id) v (Some (EditSaved (saved_of outcome.note))) (with_faults n (without_request id (appended edit purge v)))) (commit-appends v (is_late v purge) edit purge).faults
-                  (row edit purge (EditSaved (saved_of outcome.note)) (without_request id (appended edit purge v)) there (inr (free, ap EditSaved note, refl)));
-              counts = omega (arith, fewer, count);
-              later = count;
-              agrees = subst (λ (h : RegionParts S). Agrees content faults cache_of (record old { keeper = keeper; ledger = ledger_now; home = h; requests = requests }) w) (sym home_is)
-                  (commit_agrees content faults cache_of old keeper ledger_now rows cache requests id v (appended edit purge v) c fits a (commit-appends v (is_late v purge) edit purge) told books
+            let fewer = a.counted in (
+              w,
+              record {
+                takes = subst (λ n. steps.Allows (Step.CommitEdit id) v (Some (EditSaved (saved_of outcome.note))) (with_faults n (without_request id (appended edit purge v)))) (commit-appends v (is_late v purge) edit purge).faults
+                    (row edit purge (EditSaved (saved_of outcome.note)) (without_request id (appended edit purge v)) there (inr (free, ap EditSaved note, refl)));
+                counts = omega (arith, fewer, count);
+                later = count;
+                agrees = subst (λ (h : RegionParts S). Agrees content faults cache_of (record old { keeper = keeper; ledger = ledger_now; home = h; requests = requests }) w) (sym home_is)
+                    (commit_agrees content faults cache_of old keeper ledger_now rows cache requests id v (appended edit purge v) c fits a (commit-appends v (is_late v purge) edit purge) told books
                     (appended-rows edit purge v (rows_in old.home.positions) (rows_in rows) fits free tells a.home.positions) (appended-rows_west edit purge v (rows_in old.west.positions) fits a.west.positions) some stands
                     (if_map (λ x. CacheStands v West (cache_of x)) (λ x. CacheStands (appended edit purge v) West (cache_of x)) old.west.cache (λ x. appended-west edit purge v (cache_of x)) a.west.cache) places);
-            })
+              },
+            )
 
         told_row : (rest : List LedgerRow) → mid.rows ≡ rest ++ new_row (length rest + 1) (Position outcome.note.client outcome.note.index outcome.note.entry now) ∷ [] → mid.rows ≡ rest ++ new_row (length rest + 1) (told_body edit purge v) ∷ []
         told_row rest e = e ∙ ap (λ x. rest ++ new_row (length rest + 1) (Position x outcome.note.index outcome.note.entry now) ∷ []) s.client ∙ ap (λ n. rest ++ new_row (length rest + 1) (Position edit.client n outcome.note.entry now) ∷ []) index ∙ ap (λ n. rest ++ new_row (length rest + 1) (Position edit.client (next_commit v (edit_of begun.ask) begun.issued.purge).index n now) ∷ []) entry
@@ -308,9 +314,9 @@ commit_goes {K} {S} content faults cache_of old keeper ledger_now home requests 
             told_row old.ledger.rows (s.rows ∙ ap (λ x. (with_position outcome.note.client outcome.note.index outcome.note.entry now (cond x (Rattle.purge_relay.specs.Ledger.with_purge begun.purge_title now old.ledger) old.ledger)).rows) e) in
             ends old.home.cache none.1 a.home.there
             (if_map (λ x. CacheStands v Home (cache_of x)) (λ x. CacheStands (appended edit purge v) Home (cache_of x)) old.home.cache
-              (λ x stands. appended-home edit purge v (cache_of x) (cache_of x) stands stands.is_cache (λ is_so. let no : ⊥ = (let both = late ∙ e in cc) in absurd no) (λ _. refl)) a.home.cache)
+            (λ x stands. appended-home edit purge v (cache_of x) (cache_of x) stands stands.is_cache (λ is_so. let no : ⊥ = (let both = late ∙ e in cc) in absurd no) (λ _. refl)) a.home.cache)
             (subst (λ b. LedgerAgrees ledger_now.rows (appended_if b edit purge v)) (sym (late ∙ e))
-              (subst (λ rs. LedgerAgrees rs (appended_if false edit purge v)) (sym (ap (λ (b : LedgerState). b.rows) none.0 ∙ mid_is)) (early_ledger old.ledger.rows edit purge v ledger)))
+            (subst (λ rs. LedgerAgrees rs (appended_if false edit purge v)) (sym (ap (λ (b : LedgerState). b.rows) none.0 ∙ mid_is)) (early_ledger old.ledger.rows edit purge v ledger)))
         go true e =
             let some = subst (λ x. ReceivesSecond cache_of (with_positions rows old.home) home mid ledger_now now (cond x (Some (let i : Issued = record { purge = next_number old.ledger; message = next_number old.ledger } in i)) None)) e receives in
             let mid_first : mid.rows ≡ first_rows begun.purge_title ++ new_row (length (first_rows begun.purge_title) + 1) (told_body edit purge v) ∷ [] =
@@ -325,7 +331,7 @@ commit_goes {K} {S} content faults cache_of old keeper ledger_now home requests 
             ends (Some after) took.rest refl
             (appended-home edit purge v (cache_of before) (cache_of after) stood took.is_cache (λ _. took.changes) (λ is_so. let no : ⊥ = (let both = late ∙ e in cc) in absurd no))
             (subst (λ b. LedgerAgrees ledger_now.rows (appended_if b edit purge v)) (sym (late ∙ e))
-              (subst (λ rs. LedgerAgrees rs (appended_if true edit purge v)) (sym rows_are) (late_ledger old.ledger.rows mid.spare edit purge v ledger)))
+            (subst (λ rs. LedgerAgrees rs (appended_if true edit purge v)) (sym rows_are) (late_ledger old.ledger.rows mid.spare edit purge v ledger)))
 
     decides : (begun : BegunEdit) (mid : LedgerState) (rows : Positions) → IsBegun v begun (edit_of begun.ask) begun.issued.purge → request_at v id ≡ Some (world.EditBegun (edit_of begun.ask) begun.issued.purge) → Places old.requests requests id None
         → (result : Result CommitOutcome EditRefusal) → HasStoreFault (faults old.keeper) (faults keeper) result
@@ -364,7 +370,7 @@ commit_goes {K} {S} content faults cache_of old keeper ledger_now home requests 
         let said : answer ≡ NotOpen id = (let e = none.0 in cc) in
         subst Goes (sym said)
         (leaves content faults cache_of old keeper ledger_now home requests v (Step.CommitEdit id) (Some (NotOpen id)) leave none.1 a
-          (no_point (steps.begun_edit (request_at v id)) id v v (λ e. Commits id e v (Some (NotOpen id)) v) (no_begun v (open_at old.requests id) (request_at v id) (a.requests id) is) refl) (omega (arith, fewer, count)))
+        (no_point (steps.begun_edit (request_at v id)) id v v (λ e. Commits id e v (Some (NotOpen id)) v) (no_begun v (open_at old.requests id) (request_at v id) (a.requests id) is) refl) (omega (arith, fewer, count)))
     by (Some begun) is (places, given, commits) =
         let b = is_begun v (open_at old.requests id) (request_at v id) begun (a.requests id) is in
         let o = own begun b.0 b.1 b.3 b.2 in

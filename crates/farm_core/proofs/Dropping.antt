@@ -1,15 +1,13 @@
 -- The steps need and drop go on with every run.
-use Rattle.std.proofs.Common.{◌≡◌, ℕ, zero, suc, ◌+◌, ◌≤◌, Bool, true, false, List, [], ◌∷◌, map, Option, Some, None, refl, sym, ap, subst, ◌∙◌, arith, append-nil, nat_eq}
+use Rattle.std.proofs.Common.{◌≡◌, ℕ, zero, suc, List, [], ◌∷◌, map, Option, Some, None, refl, sym, ap, subst, ◌∙◌, arith, append-nil}
 use Rattle.std.specs.Prelude.{option_map, slice_get, slice_set}
-use Rattle.std.proofs.lemmas.Bool.Decides.{nat_tests}
 use Rattle.wiki_model.specs.declared.Region.{Region}
 use Rattle.wiki_model.specs.declared.Region.TheVariants.{Home, West}
 use Rattle.wiki_model.specs.Bytes.{Bytes}
 use Rattle.wiki_model.specs.History.{Entry}
 use Rattle.wiki_model.specs.Cache.{CacheMap}
-use Rattle.wiki_model.specs.World as world
-use Rattle.wiki_model.specs.World.{World, site, moment, request_at, without_request, message_at, with_dropped, drop_at, dropped_message}
-use Rattle.wiki_model.specs.Answers.{Answer, Unknown}
+use Rattle.wiki_model.specs.World.{World, site, request_at, without_request, message_at, with_dropped, drop_at, dropped_message}
+use Rattle.wiki_model.specs.Answers.{Answer}
 use Rattle.wiki_model.specs.Steps as steps
 use Rattle.wiki_model.specs.Steps.{Step}
 use Rattle.wiki_model.specs.Runs.{One, with_faults}
@@ -22,19 +20,18 @@ use Rattle.purge_relay.specs.AsModel.{row_message}
 use Rattle.farm_core.specs.RequestMap.{Entries, open_at, waited_view}
 use Rattle.farm_core.proofs.Keeping.{ledger_kept}
 use Rattle.farm_core.specs.FarmParts.{FarmParts, IsFarm}
-use Rattle.region_state.specs.RegionState.{RegionParts}
 use Rattle.farm_core.specs.Agreement as agreed
 use Rattle.farm_core.specs.Agreement.{Agrees}
 use Rattle.farm_core.specs.RelaySteps.{Drops}
 use Rattle.farm_core.specs.ViewSteps.{Needs}
 use Rattle.farm_core.specs.Runs.{GoesFrom, LeadsTo}
 use Rattle.farm_core.proofs.Following.{Follows, agree-later}
-use Rattle.farm_core.proofs.Standing.{IsStill, stands-still}
-use Rattle.farm_core.proofs.Points.{AllAgree, closed, no_waited, is_waited}
-use Rattle.farm_core.proofs.Quiet.{IsQuiet, agrees-quiet, agrees-ledger, quiet-follows}
+use Rattle.farm_core.proofs.Standing.{stands-still}
+use Rattle.farm_core.proofs.Points.{closed, no_waited, is_waited}
+use Rattle.farm_core.proofs.Quiet.{IsQuiet, agrees-ledger, quiet-follows}
 use Rattle.farm_core.proofs.Waiting.{calm_agrees}
 use Rattle.farm_core.proofs.Ledgers.{message_is}
-use Rattle.farm_core.proofs.Keeping.{NoMoreBegun, none_begun, same_begun, requests_kept}
+use Rattle.farm_core.proofs.Keeping.{NoMoreBegun, none_begun, same_begun}
 
 pub need_goes : {K S : Type 0} (content : K → Option (List Entry)) (faults : K → ℕ) (cache_of : S → CacheMap Bytes) (old : FarmParts K S) (requests : Entries) (id : ℕ)
     → Needs id old.requests requests (waited_view (open_at old.requests id)) → GoesFrom content faults cache_of old (record old { requests = requests }) (Step.Need id) (One None)
@@ -44,20 +41,28 @@ need_goes {K} {S} content faults cache_of old requests id did v fits a = by (wai
     by None is same =
         let w : World = with_faults (faults old.keeper) v in
         let q : IsQuiet v w = record { history = refl; setting = refl; messages = refl; home = refl; west = refl; markup = refl } in
-        let none = no_waited v (open_at old.requests id) (request_at v id) (a.requests id) is in
-        (w, record {
-          takes = (refl, ap (steps.closed_if id v) (sym none)); counts = a.counted; later = omega arith;
-          agrees = subst (λ (es : Entries). Agrees content faults cache_of (record old { requests = es }) w) (sym same)
-              (calm_agrees content faults cache_of old old.requests v w (record { quiet = q; count = refl; all = λ i. agree-later v w (quiet-follows v w q) (open_at old.requests i) (request_at v i) (a.requests i) }) a);
-        })
+        let none = no_waited v (open_at old.requests id) (request_at v id) (a.requests id) is in (
+          w,
+          record {
+            takes = (refl, ap (steps.closed_if id v) (sym none));
+            counts = a.counted;
+            later = omega arith;
+            agrees = subst (λ (es : Entries). Agrees content faults cache_of (record old { requests = es }) w) (sym same)
+                (calm_agrees content faults cache_of old old.requests v w (record { quiet = q; count = refl; all = λ i. agree-later v w (quiet-follows v w q) (open_at old.requests i) (request_at v i) (a.requests i) }) a);
+          },
+        )
     by (Some (view, need)) is places =
         let w : World = with_faults (faults old.keeper) (without_request id v) in
         let q : IsQuiet v w = record { history = refl; setting = refl; messages = refl; home = refl; west = refl; markup = refl } in
-        let there = is_waited v (open_at old.requests id) (request_at v id) view need (a.requests id) is in
-        (w, record {
-          takes = (refl, ap (λ o. steps.closed_if id v (steps.waited_view o)) (sym there.1)); counts = a.counted; later = omega arith;
-          agrees = calm_agrees content faults cache_of old requests v w (record { quiet = q; count = refl; all = closed v w old.requests requests id (quiet-follows v w q) refl places a.requests }) a;
-        })
+        let there = is_waited v (open_at old.requests id) (request_at v id) view need (a.requests id) is in (
+          w,
+          record {
+            takes = (refl, ap (λ o. steps.closed_if id v (steps.waited_view o)) (sym there.1));
+            counts = a.counted;
+            later = omega arith;
+            agrees = calm_agrees content faults cache_of old requests v w (record { quiet = q; count = refl; all = closed v w old.requests requests id (quiet-follows v w q) refl places a.requests }) a;
+          },
+        )
 
 pub need_begun : (id : ℕ) (old new : Entries) (found : Option (OpenView × ℕ)) → Needs id old new found → NoMoreBegun old new
 need_begun id old new None same = same_begun old new same
@@ -101,20 +106,28 @@ drop_goes {K} {S} content faults cache_of old ledger_now number answer did v fit
         let w : World = with_faults (faults old.keeper) (with_dropped number v) in
         let follows : Follows v w = record { more = []; history = sym (append-nil v.history); setting = refl; issued = (dropping-later number v).issued } in
         let rows : ledger_now.rows ≡ slice_set old.ledger.rows n (dropped row) = ap (λ (b : LedgerState). b.rows) books ∙ ap (λ k. (changed_at dropped k old.ledger).rows) named ∙ ap (λ o. with_row old.ledger.rows (suc n) (option_map dropped o)) e in
-        let m_is : message_at v number ≡ Some (row_message row) = at ∙ ap (λ k. option_map row_message (row_at old.ledger.rows k)) named ∙ ap (option_map row_message) e in
-        (w, record {
-          takes = (ap (λ o. (steps.dropped number v o).0) (sym m_is), ap (λ o. (steps.dropped number v o).1) (sym m_is));
-          counts = a.counted; later = omega arith;
-          agrees = record {
-            plan = a.plan; opened = a.opened; history = a.history; counted = omega arith;
-            messages = ap (map row_message) rows ∙ drop_is old.ledger.rows n row e ∙ ap (λ k. drop_at (map row_message old.ledger.rows) k) (sym named) ∙ ap (λ ms. drop_at ms number) a.messages;
-            receipts = λ r k. ap (λ rs. receipt_at r (row_at rs k)) rows ∙ drop_receipts r old.ledger.rows n row e k ∙ a.receipts r k ∙ same r k;
-            requests = λ id. agree-later v w follows (open_at old.requests id) (request_at v id) (a.requests id);
-            home_moment = a.home_moment; west_moment = a.west_moment; beat = a.beat;
-            home = stands-still cache_of old.home v w Home (record { history = refl; setting = refl; markup = refl; up = omega arith; applied = refl; heard = refl; events = refl }) a.home;
-            west = stands-still cache_of old.west v w West (record { history = refl; setting = refl; markup = refl; up = omega arith; applied = refl; heard = refl; events = refl }) a.west;
-          };
-        })
+        let m_is : message_at v number ≡ Some (row_message row) = at ∙ ap (λ k. option_map row_message (row_at old.ledger.rows k)) named ∙ ap (option_map row_message) e in (
+          w,
+          record {
+            takes = (ap (λ o. (steps.dropped number v o).0) (sym m_is), ap (λ o. (steps.dropped number v o).1) (sym m_is));
+            counts = a.counted;
+            later = omega arith;
+            agrees = record {
+              plan = a.plan;
+              opened = a.opened;
+              history = a.history;
+              counted = omega arith;
+              messages = ap (map row_message) rows ∙ drop_is old.ledger.rows n row e ∙ ap (λ k. drop_at (map row_message old.ledger.rows) k) (sym named) ∙ ap (λ ms. drop_at ms number) a.messages;
+              receipts = λ r k. ap (λ rs. receipt_at r (row_at rs k)) rows ∙ drop_receipts r old.ledger.rows n row e k ∙ a.receipts r k ∙ same r k;
+              requests = λ id. agree-later v w follows (open_at old.requests id) (request_at v id) (a.requests id);
+              home_moment = a.home_moment;
+              west_moment = a.west_moment;
+              beat = a.beat;
+              home = stands-still cache_of old.home v w Home (record { history = refl; setting = refl; markup = refl; up = omega arith; applied = refl; heard = refl; events = refl }) a.home;
+              west = stands-still cache_of old.west v w West (record { history = refl; setting = refl; markup = refl; up = omega arith; applied = refl; heard = refl; events = refl }) a.west;
+            };
+          },
+        )
       where
         same : (r : Region) (k : ℕ) → agreed.receipt_in (site r v).events k ≡ agreed.receipt_in (site r (with_faults (faults old.keeper) (with_dropped number v))).events k
         same Home k = refl
@@ -125,13 +138,16 @@ drop_goes {K} {S} content faults cache_of old ledger_now number answer did v fit
         let w : World = with_faults (faults old.keeper) v in
         let q : IsQuiet v w = record { history = refl; setting = refl; messages = refl; home = refl; west = refl; markup = refl } in
         let none : message_at v number ≡ None = at ∙ ap (option_map row_message) e in
-        subst Goes (sym said)
-        (w, record {
-          takes = (ap (λ o. (steps.dropped number v o).0) (sym none), ap (λ o. (steps.dropped number v o).1) (sym none));
-          counts = a.counted; later = omega arith;
-          agrees = agrees-ledger content faults cache_of old ledger_now w (ap (λ (b : LedgerState). b.rows) books)
-              (calm_agrees content faults cache_of old old.requests v w (record { quiet = q; count = refl; all = λ i. agree-later v w (quiet-follows v w q) (open_at old.requests i) (request_at v i) (a.requests i) }) a);
-        })
+        subst Goes (sym said) (
+          w,
+          record {
+            takes = (ap (λ o. (steps.dropped number v o).0) (sym none), ap (λ o. (steps.dropped number v o).1) (sym none));
+            counts = a.counted;
+            later = omega arith;
+            agrees = agrees-ledger content faults cache_of old ledger_now w (ap (λ (b : LedgerState). b.rows) books)
+                (calm_agrees content faults cache_of old old.requests v w (record { quiet = q; count = refl; all = λ i. agree-later v w (quiet-follows v w q) (open_at old.requests i) (request_at v i) (a.requests i) }) a);
+          },
+        )
     by n named (Some row) e (said, books) = subst Goes (sym said) (there number row refl e books)
 
 pub drop_kept : {K S : Type 0} (content : K → Option (List Entry)) (cache_of : S → CacheMap Bytes) (old : FarmParts K S) (ledger_now : LedgerState) (number : ℕ) (answer : Option Answer) (found : Option LedgerRow) → row_at old.ledger.rows number ≡ found

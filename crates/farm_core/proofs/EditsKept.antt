@@ -1,9 +1,8 @@
 -- What always holds of a farm holds after the steps of an edit. Room and the client's row are reserved when an edit is begun, and
 -- given back when it is closed; so both stand for each begun edit in between.
-use Rattle.std.proofs.Common.{◌≡◌, ℕ, ◌+◌, ◌-◌, ◌≤◌, ◌⊎◌, inl, inr, Bool, true, false, List, [], ◌∷◌, ◌++◌, length, Option, Some, None, IfSome, IsTrue, Result, Ok, Err, refl, sym, ap, subst, ◌∙◌, arith, nat_eq}
+use Rattle.std.proofs.Common.{◌≡◌, ℕ, ◌+◌, ◌-◌, ◌≤◌, inl, inr, Bool, true, false, List, [], ◌∷◌, ◌++◌, length, Option, Some, None, IfSome, IsTrue, Result, Ok, Err, refl, sym, ap, subst, ◌∙◌, arith, nat_eq}
 use Rattle.std.specs.Prelude.{option_map, option_and_then}
 use Rattle.std.proofs.lemmas.Bool.Decides.{nat_tests}
-use Rattle.wiki_model.specs.declared.Region.TheVariants.{Home}
 use Rattle.wiki_model.specs.Bytes.{Bytes}
 use Rattle.wiki_model.specs.History.{Entry, Edit, Committed, commit_for, stamp_at}
 use Rattle.wiki_model.specs.Cache.{CacheMap}
@@ -16,7 +15,7 @@ use Rattle.purge_relay.specs.declared.ledger_row.LedgerRow.{LedgerRow}
 use Rattle.purge_relay.specs.declared.ledger.Issued.{Issued}
 use Rattle.purge_relay.specs.Ledger.{LedgerState, row_at}
 use Rattle.chronology_store.specs.declared.position_row.PositionRow.{PositionRow as Row}
-use Rattle.chronology_store.specs.ChronologyStore.{Positions, row_of, is_reserved}
+use Rattle.chronology_store.specs.ChronologyStore.{Positions, is_reserved}
 use Rattle.chronology_store.proofs.ModelRows.{still_reserved, more_reserved}
 use Rattle.edit_core.specs.declared.edit_ask.EditAsk.{EditAsk}
 use Rattle.edit_core.specs.declared.edit_ask.CommitOutcome.{CommitOutcome}
@@ -34,7 +33,7 @@ use Rattle.farm_core.specs.declared.open_request.OpenRequest.{OpenRequest}
 use Rattle.farm_core.specs.declared.open_request.OpenRequest.TheVariants as point
 use Rattle.farm_core.specs.RequestMap.{Entries, Places, open_at, unless_taken, begun_edit, room}
 use Rattle.farm_core.specs.FarmParts.{FarmParts, IsFarm}
-use Rattle.farm_core.specs.RelaySteps.{TakesRow, TakesBody, Receives}
+use Rattle.farm_core.specs.RelaySteps.{TakesRow, TakesBody}
 use Rattle.farm_core.specs.EditSteps.{second_purge_in, ReceivesSecond, CommitsTo, EndsBegin, BeginsTo}
 use Rattle.farm_core.proofs.Carriages.{row_before}
 use Rattle.farm_core.proofs.Keeping.{NoMoreBegun, none_begun, same_begun}
@@ -93,7 +92,14 @@ kept : {K S : Type 0} (content : K → Option (List Entry)) (cache_of : S → Ca
     → IfSome (content keeper) (λ h. stamp_at h (length h) ≤ old.moments.home) → IsBefore cache_of home old.moments.home → room requests ≤ ledger_now.spare → AreReserved home.positions requests
     → IsFarm content cache_of (record old { keeper = keeper; ledger = ledger_now; home = home; requests = requests })
 kept content cache_of old keeper ledger_now home requests k stamps early enough reserved = record {
-  home_small = k.home_small; west_small = k.west_small; delay = k.delay; stamps = stamps; home_before = early; west_before = k.west_before; room = enough; reserved = reserved;
+  home_small = k.home_small;
+  west_small = k.west_small;
+  delay = k.delay;
+  stamps = stamps;
+  home_before = early;
+  west_before = k.west_before;
+  room = enough;
+  reserved = reserved;
 }
 
 left : {K S : Type 0} (content : K → Option (List Entry)) (cache_of : S → CacheMap Bytes) (old : FarmParts K S) (keeper : K) (ledger_now : LedgerState) (home : RegionParts S) (requests : Entries) → IsFarm content cache_of old

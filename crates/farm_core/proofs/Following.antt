@@ -1,20 +1,19 @@
 -- What a later world still says of an open request.
-use Rattle.std.proofs.Common.{◌≡◌, ℕ, zero, suc, ◌+◌, ◌<◌, ◌≤◌, List, [], ◌∷◌, ◌++◌, length, take, Option, Some, None, refl, sym, ap, subst, ◌∙◌, arith, append-nil}
+use Rattle.std.proofs.Common.{◌≡◌, ℕ, zero, suc, ◌+◌, ◌≤◌, List, [], ◌∷◌, ◌++◌, length, Option, Some, None, sym, ap, subst, ◌∙◌, arith}
 use Rattle.std.proofs.lemmas.List.{take-append-le}
 use Rattle.std.specs.Prelude.{option_map}
 use Rattle.wiki_model.specs.Bytes.{last_of}
 use Rattle.wiki_model.specs.Titles.{Title}
 use Rattle.wiki_model.specs.History.{Entry, stamp_at, page_text, commits_on}
-use Rattle.wiki_model.specs.Html.{html, page_html}
+use Rattle.wiki_model.specs.Html.{html}
 use Rattle.wiki_model.specs.World as world
 use Rattle.wiki_model.specs.World.{World, Setting, Request, message_at}
 use Rattle.wiki_model.specs.HoldOff.{IsIssued}
 use Rattle.wiki_model.proofs.HistoryGrowth.{html-grows, stamp-grows}
 use Rattle.replica_apply.specs.declared.snapshot.Snapshot.{Snapshot}
-use Rattle.page_render.specs.AsModel.{template_text}
 use Rattle.farm_core.specs.declared.open_request.OpenRequest.{OpenRequest}
 use Rattle.farm_core.specs.declared.open_request.OpenRequest.TheVariants as point
-use Rattle.farm_core.specs.RequestMap.{HasPage, IsRequest, AgreeAt, IsBegun}
+use Rattle.farm_core.specs.RequestMap.{HasPage, IsRequest, AgreeAt}
 
 -- From v to w the history only grew, each message is still issued, and the setting stayed.
 pub record Follows (v w : World) : Type 0 where

@@ -1,10 +1,9 @@
 -- A round whose cache was lent and is given back goes on with every run.
-use Rattle.std.proofs.Common.{◌≡◌, ℕ, zero, suc, ◌+◌, ◌≤◌, Bool, true, false, List, [], ◌∷◌, length, map, drop, Option, Some, None, IfSome, refl, sym, ap, subst, ◌∙◌, arith, append-nil}
+use Rattle.std.proofs.Common.{◌≡◌, ℕ, zero, suc, ◌≤◌, Bool, List, [], ◌∷◌, length, drop, Option, Some, None, IfSome, refl, sym, ap, subst, ◌∙◌, arith, append-nil}
 use Rattle.std.specs.Prelude.{option_map, slice_get}
 use Rattle.std.specs.List.{AllByRecursion}
 use Rattle.wiki_model.specs.declared.Region.{Region}
 use Rattle.wiki_model.specs.declared.Region.TheVariants.{Home, West}
-use Rattle.wiki_model.specs.declared.Readings.{Readings}
 use Rattle.wiki_model.specs.Bytes.{Bytes}
 use Rattle.wiki_model.specs.Titles.{Title}
 use Rattle.wiki_model.specs.History.{Entry}
@@ -22,7 +21,7 @@ use Rattle.wiki_model.specs.Caches.{CacheStands}
 use Rattle.wiki_model.specs.Runs.{with_faults, Leads}
 use Rattle.wiki_model.proofs.StepLaws.{IsReceivable, receipt-is, receivable-later, proper-jobs}
 use Rattle.wiki_model.proofs.RoundLaws.{round-stands}
-use Rattle.wiki_model.proofs.FrameLaws.{stands-grown, if_map}
+use Rattle.wiki_model.proofs.FrameLaws.{stands-grown}
 use Rattle.purge_relay.specs.declared.message.Body.{Body}
 use Rattle.purge_relay.specs.declared.message.Body.TheVariants.{Purge, Position}
 use Rattle.purge_relay.specs.declared.ledger_row.LedgerRow.{LedgerRow}
@@ -34,17 +33,16 @@ use Rattle.purge_relay.specs.AsModel.{row_message}
 use Rattle.farm_core.specs.RequestMap.{open_at}
 use Rattle.farm_core.specs.FarmParts.{FarmParts, moment_of}
 use Rattle.region_state.specs.RegionState.{RegionParts}
-use Rattle.farm_core.specs.Runs.{Stands, advanced}
+use Rattle.farm_core.specs.Runs.{advanced}
 use Rattle.wiki_model.proofs.ConsistentLaws.{readings-keep}
 use Rattle.farm_core.proofs.Going.{agrees-read, stands-consistent}
 use Rattle.farm_core.proofs.Waiting.{site_of, moment_is}
 use Rattle.farm_core.specs.Agreement as agreed
 use Rattle.farm_core.specs.Agreement.{Agrees, RegionStands}
-use Rattle.farm_core.specs.ViewSteps.{region_at}
 use Rattle.farm_core.specs.LendCache.{with_given, without_cache, received_all, purges_of, was_lost, answers_of, round_turn, GivesBack}
 use Rattle.region_state.specs.RegionState.{with_cache}
 use Rattle.farm_core.proofs.Following.{Follows, agree-later}
-use Rattle.farm_core.proofs.Standing.{IsStill, stands-still, site_grown, rows_moments}
+use Rattle.farm_core.proofs.Standing.{stands-still, site_grown, rows_moments}
 use Rattle.farm_core.proofs.Ledgers.{message_is, receipts_leave, receipts_more, events_after}
 use Rattle.farm_core.proofs.Issuing.{LedgerAgrees}
 
@@ -90,8 +88,15 @@ one_after West purge title v = record { history = refl; setting = refl; markup =
 
 then : (u v w : World) → IsAfter u v → IsAfter v w → IsAfter u w
 then u v w a b = record {
-  history = b.history ∙ a.history; setting = b.setting ∙ a.setting; markup = b.markup ∙ a.markup; requests = b.requests ∙ a.requests; messages = b.messages ∙ a.messages; counted = b.counted ∙ a.counted;
-  applied = λ q. b.applied q ∙ a.applied q; heard = λ q. b.heard q ∙ a.heard q; moments = λ q. b.moments q ∙ a.moments q;
+  history = b.history ∙ a.history;
+  setting = b.setting ∙ a.setting;
+  markup = b.markup ∙ a.markup;
+  requests = b.requests ∙ a.requests;
+  messages = b.messages ∙ a.messages;
+  counted = b.counted ∙ a.counted;
+  applied = λ q. b.applied q ∙ a.applied q;
+  heard = λ q. b.heard q ∙ a.heard q;
+  moments = λ q. b.moments q ∙ a.moments q;
 }
 
 pub all_after : (r : Region) (jobs : List Job) (v : World) → AllByRecursion (IsReceivable v) jobs → IsAfter v (received r jobs v)
@@ -314,9 +319,13 @@ give_back_goes {K} {S} content faults cache_of old r after now purges lost now_i
     let leads : Leads v (round_turn at r jobs answers) w = record {
       takes = subst (λ n. MakesRound r jobs (at_readings at v) answers (with_faults n (rounded r jobs (was_lost answers) (answers_of answers) (at_readings at v)))) (rounded_counted r jobs (was_lost answers) (answers_of answers) (at_readings at v) all) row;
       faults = e;
-    } in
-    (w, record {
-      opened = stands.opened;
-      run = (v, stands.run, leads);
-      agrees = subst (λ (f : FarmParts K S). Agrees content faults cache_of f w) new_is agrees;
-    }, leads, omega arith)
+    } in (
+      w,
+      record {
+        opened = stands.opened;
+        run = (v, stands.run, leads);
+        agrees = subst (λ (f : FarmParts K S). Agrees content faults cache_of f w) new_is agrees;
+      },
+      leads,
+      omega arith,
+    )

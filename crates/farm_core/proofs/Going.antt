@@ -1,5 +1,5 @@
 -- A step goes on with every run for which the farm stood, where it does so from each world after the readings.
-use Rattle.std.proofs.Common.{◌≡◌, ℕ, ◌≤◌, List, [], ◌∷◌, ◌++◌, Option, Some, None, refl, sym, ap, subst, ◌∙◌, arith, max, append-nil}
+use Rattle.std.proofs.Common.{◌≡◌, ℕ, List, [], Option, refl, sym, ap, subst, arith, max, append-nil}
 use Rattle.wiki_model.specs.declared.Region.{Region}
 use Rattle.wiki_model.specs.declared.Region.TheVariants.{Home, West}
 use Rattle.wiki_model.specs.declared.Readings.{Readings}
@@ -9,13 +9,13 @@ use Rattle.wiki_model.specs.Cache.{CacheMap}
 use Rattle.wiki_model.specs.World.{World, at_readings, cut, request_at}
 use Rattle.wiki_model.specs.Consistent.{IsConsistent}
 use Rattle.wiki_model.specs.Steps.{Step}
-use Rattle.wiki_model.specs.Runs.{Turn, Reply, IsRun, Leads, opening}
+use Rattle.wiki_model.specs.Runs.{Turn, Reply, IsRun, Leads}
 use Rattle.wiki_model.proofs.ConsistentLaws.{readings-keep}
 use Rattle.wiki_model.proofs.StepLaws.{opened-run-keeps}
 use Rattle.farm_core.specs.RequestMap.{Entries, open_at}
 use Rattle.farm_core.specs.FarmParts.{FarmParts}
 use Rattle.farm_core.specs.Agreement.{Agrees}
-use Rattle.farm_core.specs.Runs.{Stands, GoesOnBy, GoesFrom, LeadsTo, Steps, StepsFrom, advanced}
+use Rattle.farm_core.specs.Runs.{Stands, GoesOnBy, GoesFrom, Steps, StepsFrom, advanced}
 use Rattle.farm_core.proofs.Following.{Follows, agree-later}
 use Rattle.farm_core.proofs.Standing.{IsStill, stands-still}
 

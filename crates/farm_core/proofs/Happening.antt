@@ -1,12 +1,11 @@
 -- A farm agrees with the world after something happened to a region's cache.
-use Rattle.std.proofs.Common.{◌≡◌, ℕ, zero, suc, ◌+◌, ◌≤◌, List, [], ◌∷◌, ◌++◌, length, map, drop, Option, Some, None, IfSome, refl, sym, ap, subst, ◌∙◌, arith, append-nil}
+use Rattle.std.proofs.Common.{◌≡◌, ℕ, ◌≤◌, List, length, map, drop, Option, Some, None, refl, sym, ap, subst, ◌∙◌, arith}
 use Rattle.wiki_model.specs.declared.Region.{Region}
 use Rattle.wiki_model.specs.declared.Region.TheVariants.{Home, West}
 use Rattle.wiki_model.specs.Bytes.{Bytes}
 use Rattle.wiki_model.specs.History.{Entry}
 use Rattle.wiki_model.specs.Cache.{CacheMap}
-use Rattle.wiki_model.specs.World as world
-use Rattle.wiki_model.specs.World.{World, Setting, Site, Event, site, moment, at_home, at_west, event_in}
+use Rattle.wiki_model.specs.World.{World, Setting, Site, Event, site, at_home, at_west, event_in}
 use Rattle.wiki_model.specs.Changes.{IsEvent}
 use Rattle.wiki_model.specs.Caches.{CacheStands}
 use Rattle.purge_relay.specs.LedgerRow.{receipt_at}
@@ -15,7 +14,7 @@ use Rattle.chronology_store.specs.AsModel.{rows_in}
 use Rattle.purge_relay.specs.AsModel.{row_message}
 use Rattle.region_state.specs.AsModel.{IsPlanOf}
 use Rattle.farm_core.specs.RequestMap.{Entries}
-use Rattle.farm_core.specs.FarmParts.{FarmParts, with_region_cache, region_parts}
+use Rattle.farm_core.specs.FarmParts.{FarmParts, with_region_cache}
 use Rattle.region_state.specs.RegionState.{RegionParts}
 use Rattle.farm_core.specs.Agreement.{Agrees, RegionStands, ArePrefixes, config_of, receipt_in, last_beat_in}
 use Rattle.farm_core.proofs.Standing.{IsStill, stands-still, rows_moments}

@@ -1,6 +1,6 @@
 -- The ledger agrees with the world as messages are issued.
-use Rattle.std.proofs.Common.{◌≡◌, ℕ, zero, suc, ◌+◌, ◌-◌, ◌<◌, ◌≤◌, Bool, true, false, List, [], ◌∷◌, ◌++◌, length, map, Option, Some, None, refl, sym, ap, subst, ◌∙◌, arith}
-use Rattle.std.specs.Prelude.{option_map, slice_get}
+use Rattle.std.proofs.Common.{◌≡◌, ℕ, zero, suc, ◌+◌, false, List, [], ◌∷◌, ◌++◌, length, map, Some, None, refl, sym, ap, subst, ◌∙◌, arith}
+use Rattle.std.specs.Prelude.{slice_get}
 use Rattle.std.proofs.lemmas.List.{map-append}
 use Rattle.wiki_model.specs.declared.Region.{Region}
 use Rattle.wiki_model.specs.declared.Region.TheVariants.{Home, West}
@@ -9,10 +9,10 @@ use Rattle.wiki_model.specs.World.{World, Event, site, moment, with_message}
 use Rattle.wiki_model.specs.World.Event.{Received}
 use Rattle.wiki_model.specs.Steps.{purged, next_message}
 use Rattle.purge_relay.specs.declared.message.Body.{Body}
-use Rattle.purge_relay.specs.declared.message.Body.TheVariants.{Purge, Position}
+use Rattle.purge_relay.specs.declared.message.Body.TheVariants.{Purge}
 use Rattle.purge_relay.specs.declared.ledger_row.LedgerRow.{LedgerRow}
 use Rattle.purge_relay.specs.LedgerRow.{new_row, with_receipt, receipt_at}
-use Rattle.purge_relay.specs.Ledger.{LedgerState, row_at, next_number, changed_at}
+use Rattle.purge_relay.specs.Ledger.{LedgerState, row_at, changed_at}
 use Rattle.purge_relay.specs.AsModel.{body_of}
 use Rattle.purge_relay.specs.AsModel.{row_message}
 use Rattle.farm_core.specs.Agreement as agreed

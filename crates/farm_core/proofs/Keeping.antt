@@ -1,5 +1,5 @@
 -- What holds of a farm at every moment holds after its steps.
-use Rattle.std.proofs.Common.{◌≡◌, ℕ, ◌+◌, ◌-◌, ◌≤◌, ◌⊎◌, inl, inr, Bool, true, false, List, [], ◌∷◌, ◌++◌, length, Option, Some, None, IfSome, IsTrue, refl, sym, ap, subst, ◌∙◌, arith, max, nat_eq}
+use Rattle.std.proofs.Common.{◌≡◌, ℕ, ◌+◌, ◌-◌, ◌≤◌, inl, inr, Bool, true, false, List, length, Option, Some, None, IfSome, IsTrue, refl, sym, ap, subst, ◌∙◌, arith, max, nat_eq}
 use Rattle.std.specs.Prelude.{option_and_then, ◌||◌, nat_le, IsSome}
 use Rattle.std.proofs.lemmas.Bool.Decides.{nat_tests}
 use Rattle.wiki_model.specs.declared.Readings.{Readings}
@@ -16,7 +16,7 @@ use Rattle.region_state.specs.declared.wait_view.Wait.TheVariants as wait
 use Rattle.region_state.specs.declared.open_view.OpenView.{OpenView}
 use Rattle.farm_core.specs.declared.open_request.OpenRequest.{OpenRequest}
 use Rattle.farm_core.specs.declared.open_request.OpenRequest.TheVariants as point
-use Rattle.farm_core.specs.RequestMap.{Entries, open_at, kept_at, unless_taken, room, room_at, Places}
+use Rattle.farm_core.specs.RequestMap.{Entries, open_at, unless_taken, room, room_at, Places}
 use Rattle.region_state.specs.WaitView.{waits, known_in, lag_in}
 use Rattle.region_state.specs.SnapView.{ask_for}
 use Rattle.region_state.specs.StoreView.{StoresIn, StoresAt, StoresBy}
@@ -50,7 +50,8 @@ advanced_kept content cache_of farm at k = record {
   stamps = up (content farm.keeper) farm.moments.home (max farm.moments.home (cut at.home)) (omega arith) k.stamps;
   home_before = before-up cache_of farm.home farm.moments.home (max farm.moments.home (cut at.home)) (omega arith) k.home_before;
   west_before = before-up cache_of farm.west farm.moments.west (max farm.moments.west (cut at.west)) (omega arith) k.west_before;
-  room = k.room; reserved = k.reserved;
+  room = k.room;
+  reserved = k.reserved;
 }
 
 -- no edit is begun that was not, and no room is reserved
@@ -61,7 +62,12 @@ pub record NoMoreBegun (old new : Entries) : Type 0 where
 pub requests_kept : {K S : Type 0} (content : K → Option (List Entry)) (cache_of : S → CacheMap Bytes) (farm : FarmParts K S) (requests : Entries) → IsFarm content cache_of farm → NoMoreBegun farm.requests requests
     → IsFarm content cache_of (record farm { requests = requests })
 requests_kept content cache_of farm requests k begun = record {
-  home_small = k.home_small; west_small = k.west_small; delay = k.delay; stamps = k.stamps; home_before = k.home_before; west_before = k.west_before;
+  home_small = k.home_small;
+  west_small = k.west_small;
+  delay = k.delay;
+  stamps = k.stamps;
+  home_before = k.home_before;
+  west_before = k.west_before;
   room = let less = begun.room in let all = k.room in omega (arith, less, all);
   reserved = λ id b is. k.reserved id b (begun.none id b is);
 }
@@ -159,7 +165,12 @@ store_kept {K} {S} content cache_of old home west requests id answer found did k
     kept : IsBefore cache_of home old.moments.home → IsBefore cache_of west old.moments.west → home.positions ≡ old.home.positions → NoMoreBegun old.requests requests
         → IsFarm content cache_of (record old { home = home; west = west; requests = requests })
     kept home_before west_before same begun = record {
-      home_small = k.home_small; west_small = k.west_small; delay = k.delay; stamps = k.stamps; home_before = home_before; west_before = west_before;
+      home_small = k.home_small;
+      west_small = k.west_small;
+      delay = k.delay;
+      stamps = k.stamps;
+      home_before = home_before;
+      west_before = west_before;
       room = let less = begun.room in let all = k.room in omega (arith, less, all);
       reserved = λ i b is. subst (λ rows. IsTrue (is_reserved rows b.ask.client)) (sym same) (k.reserved i b (begun.none i b is));
     }
@@ -181,6 +192,12 @@ store_kept {K} {S} content cache_of old home west requests id answer found did k
 -- the ledger changes, and the room that is reserved stays
 pub ledger_kept : {K S : Type 0} (content : K → Option (List Entry)) (cache_of : S → CacheMap Bytes) (old : FarmParts K S) (ledger_now : LedgerState) → ledger_now.spare ≡ old.ledger.spare → IsFarm content cache_of old → IsFarm content cache_of (record old { ledger = ledger_now })
 ledger_kept content cache_of old ledger_now spare k = record {
-  home_small = k.home_small; west_small = k.west_small; delay = k.delay; stamps = k.stamps; home_before = k.home_before; west_before = k.west_before;
-  room = let all = k.room in omega (arith, spare, all); reserved = k.reserved;
+  home_small = k.home_small;
+  west_small = k.west_small;
+  delay = k.delay;
+  stamps = k.stamps;
+  home_before = k.home_before;
+  west_before = k.west_before;
+  room = let all = k.room in omega (arith, spare, all);
+  reserved = k.reserved;
 }

@@ -1,5 +1,5 @@
 -- The ledger's rows and the world's messages.
-use Rattle.std.proofs.Common.{◌≡◌, ℕ, zero, suc, ◌+◌, ◌-◌, ◌<◌, ◌≤◌, Bool, true, false, cond, List, [], ◌∷◌, ◌++◌, length, map, Option, Some, None, refl, sym, ap, subst, ◌∙◌, arith, nat_eq, nat_lt}
+use Rattle.std.proofs.Common.{◌≡◌, ℕ, zero, suc, Bool, true, false, cond, List, [], ◌∷◌, map, Option, Some, None, refl, sym, ap, subst, ◌∙◌, arith, nat_eq}
 use Rattle.std.specs.Prelude.{option_map, slice_get, slice_set}
 use Rattle.std.proofs.lemmas.Bool.Decides.{nat_tests}
 use Rattle.std.proofs.lemmas.Option.{slice_get-map}
@@ -10,7 +10,6 @@ use Rattle.wiki_model.specs.World.{World, Event, message_at}
 use Rattle.wiki_model.specs.World.Event.{Received}
 use Rattle.purge_relay.specs.declared.message.Body.{Body}
 use Rattle.purge_relay.specs.declared.message.Body.TheVariants.{Purge, Position}
-use Rattle.purge_relay.specs.declared.ledger_row.Receipt.{Receipt}
 use Rattle.purge_relay.specs.declared.ledger_row.LedgerRow.{LedgerRow}
 use Rattle.purge_relay.specs.LedgerRow.{with_receipt, with_receipt_in, received_by, received_at, receipt_at, receipt_in}
 use Rattle.purge_relay.specs.Ledger.{LedgerState, row_at, with_row, changed_at}

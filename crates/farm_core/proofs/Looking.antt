@@ -1,5 +1,5 @@
 -- The step look goes on with every run.
-use Rattle.std.proofs.Common.{◌≡◌, ℕ, ◌+◌, ◌≤◌, ◌⊎◌, inl, inr, List, Option, Some, None, IfSome, refl, sym, ap, subst, ◌∙◌, arith}
+use Rattle.std.proofs.Common.{◌≡◌, ℕ, inl, inr, List, Option, Some, None, IfSome, refl, sym, ap, subst, ◌∙◌, arith}
 use Rattle.std.specs.Prelude.{IsSome}
 use Rattle.wiki_model.specs.declared.Region.{Region}
 use Rattle.wiki_model.specs.Bytes.{Bytes}
@@ -18,12 +18,12 @@ use Rattle.region_state.specs.declared.open_view.OpenView.{OpenView}
 use Rattle.farm_core.specs.declared.open_request.OpenRequest.TheVariants as point
 use Rattle.region_state.specs.AsModel.{open_view_of}
 use Rattle.farm_core.specs.RequestMap.{Entries, open_at, waited_view, Places}
-use Rattle.farm_core.specs.FarmParts.{FarmParts, moment_of}
+use Rattle.farm_core.specs.FarmParts.{FarmParts}
 use Rattle.region_state.specs.RegionState.{RegionParts, RegionConfig}
 use Rattle.region_state.specs.SnapView.{ask_for}
-use Rattle.farm_core.specs.Agreement.{Agrees, RegionStands}
+use Rattle.farm_core.specs.Agreement.{RegionStands}
 use Rattle.farm_core.specs.Runs.{GoesFrom, LeadsTo}
-use Rattle.farm_core.specs.ViewSteps.{Looks, LooksTo, LooksAt, region_at}
+use Rattle.farm_core.specs.ViewSteps.{Looks, LooksTo, region_at}
 use Rattle.farm_core.proofs.Points.{placed, closed, at_point, no_point, no_waited, is_waited}
 use Rattle.farm_core.proofs.Quiet.{IsQuiet, quiet-follows}
 use Rattle.farm_core.proofs.Waiting.{site_of, moment_is, calm_agrees, none_goes}
@@ -43,26 +43,30 @@ look_goes content faults cache_of old requests id answer did v fits a = by (wait
         → MayLook id (open_view_of view, floor) v (Some said) (without_request id v) → (w : World) × LeadsTo content faults cache_of old (record old { requests = requests }) (Step.Look id) (One (Some said)) v w
     ends said view floor there places counts row =
         let w : World = with_faults (faults old.keeper) (without_request id v) in
-        let q : IsQuiet v w = record { history = refl; setting = refl; messages = refl; home = refl; west = refl; markup = refl } in
-        (w, record {
-          takes = at_point (steps.waited_view (request_at v id)) (open_view_of view, floor) id v (Some said) (without_request id v) (λ y. MayLook id y v (Some said) (without_request id v)) (ap steps.waited_view there) row;
-          counts = counts;
-          later = omega arith;
-          agrees = calm_agrees content faults cache_of old requests v w (record { quiet = q; count = refl; all = closed v w old.requests requests id (quiet-follows v w q) refl places a.requests }) a;
-        })
+        let q : IsQuiet v w = record { history = refl; setting = refl; messages = refl; home = refl; west = refl; markup = refl } in (
+          w,
+          record {
+            takes = at_point (steps.waited_view (request_at v id)) (open_view_of view, floor) id v (Some said) (without_request id v) (λ y. MayLook id y v (Some said) (without_request id v)) (ap steps.waited_view there) row;
+            counts = counts;
+            later = omega arith;
+            agrees = calm_agrees content faults cache_of old requests v w (record { quiet = q; count = refl; all = closed v w old.requests requests id (quiet-follows v w q) refl places a.requests }) a;
+          },
+        )
 
     goes : (said : Answer) (view : OpenView) (need : ℕ) (floor : Floor) → need ≡ floor.need → request_at v id ≡ Some (world.ViewWaited (open_view_of view) floor) → Places old.requests requests id (Some (point.ViewLooked view need)) → Rattle.wiki_model.specs.Runs.CountsFaults v.faults (faults old.keeper) (One (Some said))
         → MayLook id (open_view_of view, floor) v (Some said) (with_request id (world.ViewLooked (open_view_of view) floor) v) → (w : World) × LeadsTo content faults cache_of old (record old { requests = requests }) (Step.Look id) (One (Some said)) v w
     goes said view need floor same there places counts row =
         let u : World = with_request id (world.ViewLooked (open_view_of view) floor) v in
         let w : World = with_faults (faults old.keeper) u in
-        let q : IsQuiet v w = record { history = refl; setting = refl; messages = refl; home = refl; west = refl; markup = refl } in
-        (w, record {
-          takes = at_point (steps.waited_view (request_at v id)) (open_view_of view, floor) id v (Some said) u (λ y. MayLook id y v (Some said) u) (ap steps.waited_view there) row;
-          counts = counts;
-          later = omega arith;
-          agrees = calm_agrees content faults cache_of old requests v w (record { quiet = q; count = refl; all = placed v w old.requests requests id (point.ViewLooked view need) (world.ViewLooked (open_view_of view) floor) (quiet-follows v w q) refl places (floor, refl, same) a.requests }) a;
-        })
+        let q : IsQuiet v w = record { history = refl; setting = refl; messages = refl; home = refl; west = refl; markup = refl } in (
+          w,
+          record {
+            takes = at_point (steps.waited_view (request_at v id)) (open_view_of view, floor) id v (Some said) u (λ y. MayLook id y v (Some said) u) (ap steps.waited_view there) row;
+            counts = counts;
+            later = omega arith;
+            agrees = calm_agrees content faults cache_of old requests v w (record { quiet = q; count = refl; all = placed v w old.requests requests id (point.ViewLooked view need) (world.ViewLooked (open_view_of view) floor) (quiet-follows v w q) refl places (floor, refl, same) a.requests }) a;
+          },
+        )
 
     seen : (view : OpenView) (need : ℕ) (floor : Floor) → need ≡ floor.need → request_at v id ≡ Some (world.ViewWaited (open_view_of view) floor) → (found : Found Bytes)
         → MayLook id (open_view_of view, floor) v (Some (look_answer view.ask.title found)) (looked id (open_view_of view) floor found v) → LooksTo id view need old.requests requests answer found

@@ -1,9 +1,8 @@
 -- A step takes the request at the point that it needs and puts it at the next, or closes it: each case of what the step does says
 -- which. The other requests stand still, since one place was changed.
-use Rattle.std.proofs.Common.{◌≡◌, ℕ, ◌+◌, ◌⊎◌, inl, inr, Bool, true, false, List, Option, Some, None, IfSome, Result, Ok, Err, refl, sym, ap, subst, ◌∙◌, nat_eq}
+use Rattle.std.proofs.Common.{◌≡◌, ℕ, ◌+◌, inl, inr, Bool, true, false, List, Option, Some, None, IfSome, Result, Ok, Err, refl, sym, ap, subst, ◌∙◌, nat_eq}
 use Rattle.std.specs.Prelude.{option_and_then, ◌||◌, nat_le, IsSome}
 use Rattle.wiki_model.specs.declared.Region.{Region}
-use Rattle.wiki_model.specs.declared.Region.TheVariants.{Home, West}
 use Rattle.wiki_model.specs.declared.Readings.{Readings}
 use Rattle.wiki_model.specs.Bytes.{Bytes}
 use Rattle.wiki_model.specs.History.{Entry}
@@ -19,7 +18,6 @@ use Rattle.edit_core.specs.declared.edit_ask.EditRefusal.TheVariants as refusal
 use Rattle.edit_core.specs.declared.begun_edit.BegunEdit as begun_edits
 use Rattle.edit_core.specs.declared.begun_edit.Begun.{Begun}
 use Rattle.edit_core.specs.declared.begun_edit.Begun.TheVariants.{Started, Already}
-use Rattle.edit_core.specs.AsModel.{refused_of}
 use Rattle.region_state.specs.declared.wait_view.Wait.{Wait}
 use Rattle.region_state.specs.declared.wait_view.Wait.TheVariants as wait
 use Rattle.region_state.specs.declared.open_view.OpenView.{OpenView}

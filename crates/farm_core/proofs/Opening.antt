@@ -1,17 +1,9 @@
 -- A farm that is opened stands for the empty run.
-use Rattle.std.proofs.Common.{◌≡◌, ℕ, zero, suc, ◌+◌, ◌<◌, ◌≤◌, Bool, true, false, cond, max, List, [], ◌∷◌, ◌++◌, length, map, take, drop, Option, Some, None, IfSome, refl, sym, ap, subst, ◌∙◌, arith, nat_lt, bytes_eq}
+use Rattle.std.proofs.Common.{◌≡◌, ℕ, zero, suc, ◌≤◌, max, List, [], ◌∷◌, length, map, take, drop, Option, Some, None, IfSome, refl, sym, ap, subst, ◌∙◌, arith}
 use Rattle.std.specs.Prelude.{option_map, slice_get, filter, IsSome}
-use Rattle.std.proofs.lemmas.List.Elements.{filter-append}
-use Rattle.wiki_model.specs.Titles.{Client}
-use Rattle.wiki_model.specs.History.{Entry, Beat, Committed, Commit, Numbered, commits, entry_at}
-use Rattle.wiki_model.specs.Positions.{Rows, later_row, row_for, told_all, young_commits, TellsRow}
-use Rattle.wiki_model.proofs.HistoryLaws.{commits_from-push_beat, commits_from-push_commit}
-use Rattle.wiki_model.proofs.HistoryGrowth.{take-snoc}
-use Rattle.replica_apply.specs.Replica.{ReplicaState, IsPrefix}
-use Rattle.chronology_store.specs.PositionRow.{with_told}
-use Rattle.chronology_store.specs.ChronologyStore.{Positions, Changes}
-use Rattle.chronology_store.specs.AsModel.{rows_in}
-use Rattle.chronology_store.proofs.ModelRows.{tells_row}
+use Rattle.wiki_model.specs.History.{Entry}
+use Rattle.wiki_model.specs.Positions.{young_commits}
+use Rattle.replica_apply.specs.Replica.{IsPrefix}
 use Rattle.std.specs.FinMap.{get-empty}
 use Rattle.std.specs.Ordering.{nat_cmp}
 use Rattle.wiki_model.specs.declared.Region.{Region}
@@ -36,9 +28,8 @@ use Rattle.purge_relay.specs.AsModel.{row_message}
 use Rattle.farm_core.specs.RequestMap.{Entries, open_at, AgreeAt}
 use Rattle.farm_core.specs.FarmParts.{FarmParts}
 use Rattle.region_state.specs.RegionState.{RegionParts, RegionConfig}
-use Rattle.farm_core.specs.Agreement.{Agrees, RegionStands, config_of, receipt_in, last_beat_in}
+use Rattle.farm_core.specs.Agreement.{RegionStands, config_of, receipt_in, last_beat_in}
 use Rattle.farm_core.specs.Runs.{Stands}
-use Rattle.region_state.specs.NewRegion.{AreNew}
 use Rattle.farm_core.specs.NewFarm.{IsOpenedRegion, OpensCache}
 
 -- the first world
@@ -84,12 +75,12 @@ opened_stands {K} {S} content faults cache_of farm home west setting history cou
     beat = beat ∙ sym (ap (λ h. last_beat_in h None) (drop-all history));
     home = opened_site cache_of farm.home home setting history (faults farm.keeper) at Home farm.plan.home.weights farm.plan.epoch farm.plan.bounds.read_lag opened.entries
         (ap (λ ws. let c : RegionConfig = record { weights = ws; epoch = farm.plan.epoch; read_lag = farm.plan.bounds.read_lag } in c) plan.home ∙ ap (λ n. let c : RegionConfig = record { weights = setting.home_weights; epoch = n; read_lag = farm.plan.bounds.read_lag } in c) plan.epoch
-          ∙ ap (λ (b : Bounds). let c : RegionConfig = record { weights = setting.home_weights; epoch = setting.epoch; read_lag = b.read_lag } in c) plan.bounds)
+        ∙ ap (λ (b : Bounds). let c : RegionConfig = record { weights = setting.home_weights; epoch = setting.epoch; read_lag = b.read_lag } in c) plan.bounds)
         (ap (map (λ weight. 0)) plan.home) refl refl (subst (λ n. IsOpenedRegion farm.plan.home.weights farm.plan.epoch farm.plan.bounds.read_lag home (young_commits n history) farm.home) (ap (λ (m : Readings). m.home) moments) home_parts)
         home_cache.empty home_cache.is_cache home_cache.together home_cache.held;
     west = opened_site cache_of farm.west west setting history (faults farm.keeper) at West farm.plan.west.weights farm.plan.epoch farm.plan.bounds.read_lag opened.entries
         (ap (λ ws. let c : RegionConfig = record { weights = ws; epoch = farm.plan.epoch; read_lag = farm.plan.bounds.read_lag } in c) plan.west ∙ ap (λ n. let c : RegionConfig = record { weights = setting.west_weights; epoch = n; read_lag = farm.plan.bounds.read_lag } in c) plan.epoch
-          ∙ ap (λ (b : Bounds). let c : RegionConfig = record { weights = setting.west_weights; epoch = setting.epoch; read_lag = b.read_lag } in c) plan.bounds)
+        ∙ ap (λ (b : Bounds). let c : RegionConfig = record { weights = setting.west_weights; epoch = setting.epoch; read_lag = b.read_lag } in c) plan.bounds)
         (ap (map (λ weight. 0)) plan.west) refl refl (subst (λ n. IsOpenedRegion farm.plan.west.weights farm.plan.epoch farm.plan.bounds.read_lag west (young_commits n history) farm.west) (ap (λ (m : Readings). m.home) moments) west_parts)
         west_cache.empty west_cache.is_cache west_cache.together west_cache.held;
   };

@@ -1,13 +1,13 @@
 -- Whether an edit of a title is begun, by a walk over the requests.
-use Rattle.std.proofs.Common.{◌≡◌, ℕ, zero, suc, ◌+◌, ◌<◌, Bool, true, false, cond, ◌||◌, List, [], ◌∷◌, length, Option, Some, None, IsTrue, refl, sym, ap, subst, ◌∙◌, arith}
-use Rattle.std.specs.Prelude.{option_and_then, ◌↔◌, All, bytes_eq}
+use Rattle.std.proofs.Common.{◌≡◌, ℕ, suc, Bool, true, false, cond, ◌||◌, [], ◌∷◌, Option, Some, None, IsTrue, refl, sym, ap, ◌∙◌, arith}
+use Rattle.std.specs.Prelude.{option_and_then, ◌↔◌, All}
 use Rattle.std.proofs.lemmas.Slice.Eq.{bytes_eq-Decides}
 use Rattle.std.specs.Map.{lookup}
 use Rattle.wiki_model.specs.Titles.{Title}
 use Rattle.edit_core.specs.declared.begun_edit.BegunEdit.{BegunEdit}
 use Rattle.farm_core.specs.declared.open_request.OpenRequest.{OpenRequest}
 use Rattle.farm_core.specs.declared.open_request.OpenRequest.TheVariants as point
-use Rattle.farm_core.specs.RequestMap.{Entries, kept_at, open_at, unless_taken}
+use Rattle.farm_core.specs.RequestMap.{Entries, kept_at, unless_taken}
 use Rattle.farm_core.specs.ViewSteps.{HasBegun, begun_on, any_begun, AreFound}
 
 shown_is : (o : Option OpenRequest) (begun : BegunEdit) → option_and_then unless_taken o ≡ Some (point.EditBegun begun) → o ≡ Some (point.EditBegun begun)

@@ -1,5 +1,5 @@
 -- Steps that change only a request, the keeper's count or the markup.
-use Rattle.std.proofs.Common.{◌≡◌, ℕ, zero, suc, ◌+◌, ◌≤◌, List, [], ◌∷◌, ◌++◌, map, Option, Some, None, refl, sym, ap, subst, ◌∙◌, arith, append-nil}
+use Rattle.std.proofs.Common.{◌≡◌, ℕ, zero, suc, ◌≤◌, List, [], map, Option, Some, None, sym, ap, subst, ◌∙◌, arith, append-nil}
 use Rattle.wiki_model.specs.declared.Region.{Region}
 use Rattle.wiki_model.specs.declared.Region.TheVariants.{Home, West}
 use Rattle.wiki_model.specs.Bytes.{Bytes}
@@ -28,7 +28,9 @@ pub record IsQuiet (v w : World) : Type 0 where
 
 pub quiet-follows : (v w : World) → IsQuiet v w → Follows v w
 quiet-follows v w q = record {
-  more = []; history = q.history ∙ sym (append-nil v.history); setting = q.setting;
+  more = [];
+  history = q.history ∙ sym (append-nil v.history);
+  setting = q.setting;
   issued = λ purge t at i. (i.0, message purge i.0 i.1, i.2);
 }
   where
@@ -69,8 +71,16 @@ agrees-quiet content faults cache_of farm keeper requests v w q told counted all
 pub agrees-ledger : {K S : Type 0} (content : K → Option (List Entry)) (faults : K → ℕ) (cache_of : S → CacheMap Bytes) (farm : FarmParts K S) (ledger_now : LedgerState) (w : World) → ledger_now.rows ≡ farm.ledger.rows
     → Agrees content faults cache_of farm w → Agrees content faults cache_of (record farm { ledger = ledger_now }) w
 agrees-ledger content faults cache_of farm ledger_now w same a = record {
-  plan = a.plan; opened = a.opened; history = a.history; counted = a.counted;
+  plan = a.plan;
+  opened = a.opened;
+  history = a.history;
+  counted = a.counted;
   messages = ap (map row_message) same ∙ a.messages;
   receipts = λ r n. ap (λ rows. receipt_at r (row_at rows n)) same ∙ a.receipts r n;
-  requests = a.requests; home_moment = a.home_moment; west_moment = a.west_moment; beat = a.beat; home = a.home; west = a.west;
+  requests = a.requests;
+  home_moment = a.home_moment;
+  west_moment = a.west_moment;
+  beat = a.beat;
+  home = a.home;
+  west = a.west;
 }

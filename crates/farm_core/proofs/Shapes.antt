@@ -1,7 +1,7 @@
 -- No step changes the farm's shape: each one that works on a region puts a cache in the place of the cache, positions in the place
 -- of positions, or a replica in the place of that replica.
-use Rattle.std.proofs.Common.{◌≡◌, ℕ, zero, suc, List, [], ◌∷◌, length, Option, Some, None, Result, Ok, Err, refl, sym, ap, subst, ◌∙◌, ◌⊎◌, inl, inr}
-use Rattle.std.specs.Prelude.{IsSome, is_some, slice_set}
+use Rattle.std.proofs.Common.{◌≡◌, ℕ, zero, suc, List, [], ◌∷◌, length, Option, Some, None, Result, Ok, Err, refl, sym, ap, subst, ◌∙◌, inl, inr}
+use Rattle.std.specs.Prelude.{IsSome, slice_set}
 use Rattle.wiki_model.specs.declared.Region.{Region}
 use Rattle.wiki_model.specs.declared.Region.TheVariants.{Home, West}
 use Rattle.wiki_model.specs.declared.Readings.{Readings}
@@ -24,7 +24,6 @@ use Rattle.edit_core.specs.declared.begun_edit.Begun.TheVariants.{Started, Alrea
 use Rattle.region_state.specs.declared.open_view.OpenView.{OpenView}
 use Rattle.region_state.specs.declared.snap_view.Snapped.{Snapped}
 use Rattle.region_state.specs.RegionState.{RegionParts, with_cache, with_positions, with_replica}
-use Rattle.region_state.specs.StoreView.{StoresIn}
 use Rattle.farm_core.specs.declared.relay_steps.Carriage.{Carriage}
 use Rattle.farm_core.specs.declared.relay_steps.Carriage.TheVariants as carriage
 use Rattle.farm_core.specs.RequestMap.{Entries}

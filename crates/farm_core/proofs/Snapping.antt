@@ -1,16 +1,13 @@
 -- The step snap goes on with every run.
-use Rattle.std.proofs.Common.{◌≡◌, ℕ, zero, suc, ◌+◌, ◌-◌, ◌<◌, ◌≤◌, Bool, true, false, cond, List, [], ◌∷◌, ◌++◌, length, map, take, drop, Option, Some, None, IfSome, Result, Ok, Err, refl, sym, ap, subst, ◌∙◌, arith, nat_eq}
+use Rattle.std.proofs.Common.{◌≡◌, ℕ, zero, suc, ◌-◌, Bool, true, false, List, [], ◌∷◌, ◌++◌, length, map, take, drop, Option, Some, None, Result, Ok, Err, refl, sym, ap, subst, ◌∙◌, arith, nat_eq}
 use Rattle.std.specs.Prelude.{option_map, option_and_then, slice_get, zip, IsTrue, ◌↔◌, IfOk}
 use Rattle.std.proofs.lemmas.Bool.Decides.{nat_tests}
 use Rattle.std.proofs.lemmas.Option.{slice_get-map}
 use Rattle.wiki_model.specs.declared.Region.{Region}
 use Rattle.wiki_model.specs.declared.Region.TheVariants.{Home, West}
-use Rattle.wiki_model.specs.declared.Choice.{Choice}
-use Rattle.wiki_model.specs.declared.Choice.TheVariants as choice
 use Rattle.wiki_model.specs.Bytes.{Bytes}
 use Rattle.wiki_model.specs.Titles.{Title}
-use Rattle.wiki_model.specs.History.{Entry, Edit, stamp_at, page_text}
-use Rattle.wiki_model.specs.Html.{html, page_html}
+use Rattle.wiki_model.specs.History.{Entry, Edit, stamp_at}
 use Rattle.wiki_model.specs.Balance.{Row, IsChoice}
 use Rattle.wiki_model.specs.Cache.{CacheMap}
 use Rattle.wiki_model.specs.World as world
@@ -20,9 +17,7 @@ use Rattle.wiki_model.specs.Answers.{Answer, NotOpen, NoMemory, ChosenReplica, I
 use Rattle.wiki_model.specs.Steps as steps
 use Rattle.wiki_model.specs.Steps.{Step, Snaps}
 use Rattle.wiki_model.specs.Runs.{One, with_faults}
-use Rattle.wiki_model.specs.Consistent.{IsConsistent}
-use Rattle.wiki_model.proofs.HistoryGrowth.{stamp-grows, html-grows}
-use Rattle.page_render.specs.AsModel.{template_text}
+use Rattle.wiki_model.proofs.HistoryGrowth.{stamp-grows}
 use Rattle.farm_base.specs.declared.memory.Memory.{Memory}
 use Rattle.replica_apply.specs.declared.snapshot.Snapshot.{Snapshot}
 use Rattle.replica_apply.specs.Replica.{ReplicaState, IsPrefixOf}
@@ -34,13 +29,13 @@ use Rattle.farm_core.specs.declared.open_request.OpenRequest.{OpenRequest}
 use Rattle.farm_core.specs.declared.open_request.OpenRequest.TheVariants as point
 use Rattle.region_state.specs.AsModel.{open_view_of, snapshot_of, choice_of}
 use Rattle.region_state.specs.StoreView.{rendered}
-use Rattle.farm_core.specs.RequestMap.{Entries, open_at, looked_view, unless_taken, Places, HasPage, AgreeAt, IsRequest}
-use Rattle.farm_core.specs.FarmParts.{FarmParts, moment_of}
+use Rattle.farm_core.specs.RequestMap.{Entries, open_at, looked_view, unless_taken, Places, HasPage, AgreeAt}
+use Rattle.farm_core.specs.FarmParts.{FarmParts}
 use Rattle.region_state.specs.RegionState.{RegionParts, RegionConfig}
-use Rattle.region_state.specs.SnapView.{seen_row, seen_rows, SnapsIn}
-use Rattle.farm_core.specs.Agreement.{Agrees, RegionStands, ArePrefixes, weights_of, config_of}
+use Rattle.region_state.specs.SnapView.{seen_rows, SnapsIn}
+use Rattle.farm_core.specs.Agreement.{RegionStands, weights_of}
 use Rattle.farm_core.specs.Runs.{GoesFrom, LeadsTo}
-use Rattle.farm_core.specs.ViewSteps.{SnapsTo, SnapsView, TakesSnapshot, HasBegun, IsPendingIn, region_at}
+use Rattle.farm_core.specs.ViewSteps.{SnapsTo, SnapsView, HasBegun, IsPendingIn, region_at}
 use Rattle.farm_core.proofs.Points.{placed, closed, at_point, no_point, no_looked, is_looked}
 use Rattle.farm_core.proofs.Quiet.{IsQuiet, quiet-follows}
 use Rattle.farm_core.proofs.Waiting.{site_of, moment_is, calm_agrees, none_goes}
@@ -122,8 +117,11 @@ snapshot_is : {S : Type 0} (cache_of : S → CacheMap Bytes) (parts : RegionPart
     → model.IsSnapshot v r title least word (snapshot_of s)
 snapshot_is cache_of parts v r entries title need least word pending s stands all is_pending same snaps = record {
   choice = subst (λ rows. IsChoice rows least word (choice_of s.replica s.lagged)) (world_rows cache_of parts v r stands) (subst (λ n. IsChoice (seen_rows (moment r v) parts.config.weights parts.replicas) n word (choice_of s.replica s.lagged)) same snaps.choice);
-  replica = (s.replica, chosen s.replica s.lagged,
-      ap (λ xs. slice_get xs s.replica) (sym stands.applied) ∙ slice_get-map (λ (k : ReplicaState). k.applied) parts.replicas s.replica ∙ ap (option_map (λ (k : ReplicaState). k.applied)) snaps.there ∙ ap Some (sym snaps.snapshot.upto));
+  replica = (
+    s.replica,
+    chosen s.replica s.lagged,
+    ap (λ xs. slice_get xs s.replica) (sym stands.applied) ∙ slice_get-map (λ (k : ReplicaState). k.applied) parts.replicas s.replica ∙ ap (option_map (λ (k : ReplicaState). k.applied)) snaps.there ∙ ap Some (sym snaps.snapshot.upto),
+  );
   since = snaps.snapshot.since;
   lag = snaps.snapshot.lag ∙ ap (λ n. moment r v - n) (prefix_stamp v.history snaps.replica (stands.prefixes s.replica snaps.replica snaps.there) ∙ ap (stamp_at v.history) (sym snaps.snapshot.upto));
   pending = subst (λ b. IsTrue b ↔ IsPending v r title) (sym snaps.pending) (pending_is v entries title r pending all is_pending);
@@ -149,22 +147,28 @@ snap_goes {K} {S} content faults cache_of old requests id answer did v fits a = 
         let page = page_of_prefix v view.ask.title s.snapshot (moment view.region v) (snaps.of v.history (stands.prefixes s.replica snaps.replica snaps.there)) in
         let row : Snaps id (ov, floor) v None (with_request id request v) =
         (snapshot_of s, snapshot_is cache_of parts v view.region old.requests view.ask.title need floor.need view.ask.word pending s stands a.requests is_pending same snaps, refl) in
-        subst Goes (sym said)
-        (w, record {
-          takes = at_point (steps.looked_view (request_at v id)) (ov, floor) id v None (with_request id request v) (λ y. Snaps id y v None (with_request id request v)) (ap steps.looked_view there) row;
-          counts = a.counted; later = omega arith;
-          agrees = calm_agrees content faults cache_of old requests v w (record { quiet = q; count = refl; all = placed v w old.requests requests id (point.ViewSnapped view s) request (quiet-follows v w q) refl places (floor, refl, record { within = page.within; stamp = page.stamp; page = page.page; text = page.text }) a.requests }) a;
-        })
+        subst Goes (sym said) (
+          w,
+          record {
+            takes = at_point (steps.looked_view (request_at v id)) (ov, floor) id v None (with_request id request v) (λ y. Snaps id y v None (with_request id request v)) (ap steps.looked_view there) row;
+            counts = a.counted;
+            later = omega arith;
+            agrees = calm_agrees content faults cache_of old requests v w (record { quiet = q; count = refl; all = placed v w old.requests requests id (point.ViewSnapped view s) request (quiet-follows v w q) refl places (floor, refl, record { within = page.within; stamp = page.stamp; page = page.page; text = page.text }) a.requests }) a;
+          },
+        )
     go view need floor there same pending is_pending (Err want) snaps (said, places) =
         let ov = open_view_of view in
         let w : World = with_faults (faults old.keeper) (without_request id v) in
         let q : IsQuiet v w = record { history = refl; setting = refl; messages = refl; home = refl; west = refl; markup = refl } in
-        subst Goes (sym said)
-        (w, record {
-          takes = at_point (steps.looked_view (request_at v id)) (ov, floor) id v (Some NoMemory) (without_request id v) (λ y. Snaps id y v (Some NoMemory) (without_request id v)) (ap steps.looked_view there) refl;
-          counts = a.counted; later = omega arith;
-          agrees = calm_agrees content faults cache_of old requests v w (record { quiet = q; count = refl; all = closed v w old.requests requests id (quiet-follows v w q) refl places a.requests }) a;
-        })
+        subst Goes (sym said) (
+          w,
+          record {
+            takes = at_point (steps.looked_view (request_at v id)) (ov, floor) id v (Some NoMemory) (without_request id v) (λ y. Snaps id y v (Some NoMemory) (without_request id v)) (ap steps.looked_view there) refl;
+            counts = a.counted;
+            later = omega arith;
+            agrees = calm_agrees content faults cache_of old requests v w (record { quiet = q; count = refl; all = closed v w old.requests requests id (quiet-follows v w q) refl places a.requests }) a;
+          },
+        )
 
     by : (found : Option (OpenView × ℕ)) → looked_view (open_at old.requests id) ≡ found → SnapsTo old.home old.west old.moments id old.requests requests answer found → Goes answer
     by None is none =

@@ -1,5 +1,5 @@
 -- Calls that are no step: the farm stands on for every run.
-use Rattle.std.proofs.Common.{◌≡◌, ℕ, zero, suc, ◌+◌, ◌≤◌, List, [], ◌∷◌, length, map, Option, Some, None, IfSome, refl, sym, ap, subst, ◌∙◌, arith}
+use Rattle.std.proofs.Common.{◌≡◌, ℕ, zero, suc, ◌≤◌, List, [], ◌∷◌, length, map, Option, Some, None, IfSome, refl, sym, ap, subst, ◌∙◌, arith}
 use Rattle.std.specs.Prelude.{option_map, slice_get, slice_set}
 use Rattle.wiki_model.specs.declared.Region.{Region}
 use Rattle.wiki_model.specs.declared.Region.TheVariants.{Home, West}
@@ -11,7 +11,6 @@ use Rattle.purge_relay.specs.LedgerRow.{sent, receipt_at}
 use Rattle.purge_relay.specs.Ledger.{LedgerState, row_at, with_row, changed_at}
 use Rattle.purge_relay.specs.AsModel.{row_message}
 use Rattle.farm_core.specs.FarmParts.{FarmParts, IsFarm}
-use Rattle.farm_core.specs.Agreement.{Agrees}
 use Rattle.farm_core.specs.Runs.{Stands, StandsOn}
 use Rattle.farm_core.proofs.Keeping.{ledger_kept}
 
@@ -20,14 +19,35 @@ pub stands_asked : {K S : Type 0} (content : K → Option (List Entry)) (faults 
     → StandsOn content faults cache_of old (record old { keeper = keeper })
 stands_asked content faults cache_of old keeper told count start turns w s =
     let a = s.agrees in let fewer = a.counted in
-    record { opened = s.opened; run = s.run; agrees = record {
-        plan = a.plan; opened = a.opened; history = told ∙ a.history; counted = omega (arith, fewer, count); messages = a.messages; receipts = a.receipts; requests = a.requests;
-        home_moment = a.home_moment; west_moment = a.west_moment; beat = a.beat; home = a.home; west = a.west; } }
+    record {
+      opened = s.opened;
+      run = s.run;
+      agrees = record {
+        plan = a.plan;
+        opened = a.opened;
+        history = told ∙ a.history;
+        counted = omega (arith, fewer, count);
+        messages = a.messages;
+        receipts = a.receipts;
+        requests = a.requests;
+        home_moment = a.home_moment;
+        west_moment = a.west_moment;
+        beat = a.beat;
+        home = a.home;
+        west = a.west;
+      };
+    }
 
 pub asked_kept : {K S : Type 0} (content : K → Option (List Entry)) (cache_of : S → CacheMap Bytes) (old : FarmParts K S) (keeper : K) → content keeper ≡ content old.keeper → IsFarm content cache_of old → IsFarm content cache_of (record old { keeper = keeper })
 asked_kept content cache_of old keeper told k = record {
-  home_small = k.home_small; west_small = k.west_small; delay = k.delay; stamps = subst (λ o. IfSome o (λ h. stamp_at h (length h) ≤ old.moments.home)) (sym told) k.stamps;
-  home_before = k.home_before; west_before = k.west_before; room = k.room; reserved = k.reserved;
+  home_small = k.home_small;
+  west_small = k.west_small;
+  delay = k.delay;
+  stamps = subst (λ o. IfSome o (λ h. stamp_at h (length h) ≤ old.moments.home)) (sym told) k.stamps;
+  home_before = k.home_before;
+  west_before = k.west_before;
+  room = k.room;
+  reserved = k.reserved;
 }
 
 -- a message is marked as sent
@@ -68,9 +88,24 @@ pub stands_marked : {K S : Type 0} (content : K → Option (List Entry)) (faults
 stands_marked {K} {S} content faults cache_of old ledger_now number is start turns w s =
     let a = s.agrees in let m = marked number old.ledger in
     subst (λ (b : LedgerState). Stands content faults cache_of (record old { ledger = b }) start turns w) (sym is)
-    (record { opened = s.opened; run = s.run; agrees = record {
-        plan = a.plan; opened = a.opened; history = a.history; counted = a.counted; messages = m.messages ∙ a.messages; receipts = λ r n. m.receipts r n ∙ a.receipts r n; requests = a.requests;
-        home_moment = a.home_moment; west_moment = a.west_moment; beat = a.beat; home = a.home; west = a.west; } })
+    (record {
+      opened = s.opened;
+      run = s.run;
+      agrees = record {
+        plan = a.plan;
+        opened = a.opened;
+        history = a.history;
+        counted = a.counted;
+        messages = m.messages ∙ a.messages;
+        receipts = λ r n. m.receipts r n ∙ a.receipts r n;
+        requests = a.requests;
+        home_moment = a.home_moment;
+        west_moment = a.west_moment;
+        beat = a.beat;
+        home = a.home;
+        west = a.west;
+      };
+    })
 
 pub marked_kept : {K S : Type 0} (content : K → Option (List Entry)) (cache_of : S → CacheMap Bytes) (old : FarmParts K S) (ledger_now : LedgerState) (number : ℕ) → ledger_now ≡ changed_at sent number old.ledger → IsFarm content cache_of old → IsFarm content cache_of (record old { ledger = ledger_now })
 marked_kept content cache_of old ledger_now number is k = ledger_kept content cache_of old ledger_now (ap (λ (b : LedgerState). b.spare) is) k

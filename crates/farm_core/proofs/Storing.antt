@@ -1,6 +1,6 @@
 -- The step store goes on with every run.
-use Rattle.std.proofs.Common.{◌≡◌, ℕ, ◌+◌, ◌-◌, ◌≤◌, ◌⊎◌, inl, inr, Bool, true, false, List, [], map, Option, Some, None, IfSome, ◌<◌, append-nil, refl, sym, ap, subst, ◌∙◌, arith}
-use Rattle.std.specs.Prelude.{IsSome, option_map}
+use Rattle.std.proofs.Common.{◌≡◌, ℕ, ◌+◌, ◌-◌, ◌≤◌, Bool, true, false, List, [], Option, Some, None, IfSome, ◌<◌, append-nil, refl, sym, ap, subst, ◌∙◌, arith}
+use Rattle.std.specs.Prelude.{option_map}
 use Rattle.wiki_model.specs.declared.Region.{Region}
 use Rattle.wiki_model.specs.declared.Region.TheVariants.{Home, West}
 use Rattle.wiki_model.specs.declared.PutNote.{PutNote}
@@ -9,18 +9,16 @@ use Rattle.wiki_model.specs.declared.Put.{Put}
 use Rattle.wiki_model.specs.declared.Put.TheVariants as put
 use Rattle.wiki_model.specs.declared.SetRule.{SetRule}
 use Rattle.wiki_model.specs.declared.SetRule.TheVariants as rule
-use Rattle.wiki_model.specs.declared.Choice.TheVariants as choice
 use Rattle.wiki_model.specs.Bytes.{Bytes}
 use Rattle.wiki_model.specs.Titles.{class_of}
-use Rattle.wiki_model.specs.History.{Entry, page_text, stamp_at, is_shared_title}
+use Rattle.wiki_model.specs.History.{Entry, stamp_at, is_shared_title}
 use Rattle.wiki_model.specs.Html.{html}
-use Rattle.wiki_model.specs.Limits.{hold_off, life_whole, life_lagged}
+use Rattle.wiki_model.specs.Limits.{hold_off}
 use Rattle.wiki_model.specs.HoldOff.{HasReceipt}
 use Rattle.wiki_model.specs.Changes.{IsEvent}
 use Rattle.wiki_model.specs.declared.Class.{Class}
-use Rattle.wiki_model.specs.declared.Class.TheVariants as Class
 use Rattle.wiki_model.specs.Cache.{CacheMap, Cached, IsCache, Puts, SameKey, SameChecks, SameCache, set_rule}
-use Rattle.wiki_model.specs.CacheCalls.{IsNoteOf, IsMarkedBy, value_of_snapshot, answer_of_replica}
+use Rattle.wiki_model.specs.CacheCalls.{IsNoteOf, value_of_snapshot, answer_of_replica}
 use Rattle.wiki_model.specs.World as world
 use Rattle.wiki_model.specs.World.{World, Floor, Stored, Event, site, moment, request_at, without_request, at_home, at_west, event_in}
 use Rattle.wiki_model.specs.World.Event.{Kept}
@@ -34,7 +32,6 @@ use Rattle.wiki_model.specs.Consistent.{IsParked}
 use Rattle.wiki_model.specs.Caches.{CacheStands, IsTrueIn, class_check}
 use Rattle.wiki_model.proofs.StoreLaws.{put-stands, no_put-stands, put-note, whole-true, lagged-true}
 use Rattle.wiki_model.proofs.StoringLaws.{store-allowed, no_page-allowed}
-use Rattle.replica_apply.specs.declared.snapshot.Snapshot.{Snapshot}
 use Rattle.region_state.specs.declared.open_view.OpenView.{OpenView}
 use Rattle.region_state.specs.declared.snap_view.Snapped.{Snapped}
 use Rattle.region_state.specs.AsModel.{open_view_of, snapshot_of, choice_of}
@@ -43,10 +40,10 @@ use Rattle.farm_core.specs.RequestMap.{Entries, open_at, snapped_view, Places, H
 use Rattle.purge_relay.specs.LedgerRow.{receipt_at}
 use Rattle.purge_relay.specs.Ledger.{row_at}
 use Rattle.wiki_model.specs.declared.Origin.TheVariants as via
-use Rattle.farm_core.specs.FarmParts.{FarmParts, moment_of, with_region_cache}
+use Rattle.farm_core.specs.FarmParts.{FarmParts, with_region_cache}
 use Rattle.region_state.specs.RegionState.{RegionParts, RegionConfig}
-use Rattle.region_state.specs.StoreView.{StoresIn, StoresAt, StoresBy, value_from, replica_answer}
-use Rattle.farm_core.specs.Agreement.{Agrees, RegionStands, receipt_in}
+use Rattle.region_state.specs.StoreView.{StoresAt, StoresBy, value_from, replica_answer}
+use Rattle.farm_core.specs.Agreement.{Agrees, receipt_in}
 use Rattle.farm_core.specs.Runs.{GoesFrom, LeadsTo}
 use Rattle.farm_core.specs.ViewSteps.{StoresTo, region_at, other_region}
 use Rattle.farm_core.proofs.Points.{closed, at_point, no_point, no_snapped, is_snapped}
@@ -206,13 +203,15 @@ store_goes {K} {S} content faults cache_of old home west requests id answer did 
         → (w : World) × LeadsTo content faults cache_of old (record old { home = home; west = west; requests = requests }) (Step.Store id) (One (Some said)) v w
     ends said view floor s p q there places counts row =
         let w : World = with_faults (faults old.keeper) (without_request id v) in
-        let quiet : IsQuietly v w = record { history = refl; setting = refl; messages = refl; home = refl; west = refl; markup = refl } in
-        (w, record {
-          takes = at_point (steps.snapped_view (request_at v id)) (open_view_of view, floor, s) id v (Some said) (without_request id v) (λ y. Stores id y v (Some said) (without_request id v)) (ap steps.snapped_view there) row;
-          counts = counts;
-          later = omega arith;
-          agrees = subst (λ (f : FarmParts K S). Agrees content faults cache_of f w) (same_farm p q) (calm_agrees content faults cache_of old requests v w (record { quiet = quiet; count = refl; all = closed v w old.requests requests id (quiet-follows v w quiet) refl places a.requests }) a);
-        })
+        let quiet : IsQuietly v w = record { history = refl; setting = refl; messages = refl; home = refl; west = refl; markup = refl } in (
+          w,
+          record {
+            takes = at_point (steps.snapped_view (request_at v id)) (open_view_of view, floor, s) id v (Some said) (without_request id v) (λ y. Stores id y v (Some said) (without_request id v)) (ap steps.snapped_view there) row;
+            counts = counts;
+            later = omega arith;
+            agrees = subst (λ (f : FarmParts K S). Agrees content faults cache_of f w) (same_farm p q) (calm_agrees content faults cache_of old requests v w (record { quiet = quiet; count = refl; all = closed v w old.requests requests id (quiet-follows v w quiet) refl places a.requests }) a);
+          },
+        )
 
     shows : (view : OpenView) (floor : Floor) (snapped : Snapped) (text : Bytes) (n : PutNote) (before after : S) → request_at v id ≡ Some (world.ViewSnapped (open_view_of view) floor (snapshot_of snapped)) → Places old.requests requests id None
         → HasPage v view.ask.title snapped.snapshot → snapped.snapshot.page ≡ Some text
@@ -235,17 +234,19 @@ store_goes {K} {S} content faults cache_of old home west requests id answer did 
         let s_in = site_of content faults cache_of old v a r in
         let stands : CacheStands v r (cache_of before) = subst (λ (o : Option S). IfSome o (λ c. CacheStands v r (cache_of c))) before_is s_in.cache in
         let both = stored_by v w r (cache_of before) (cache_of after) title snapped page n stands is_cache has shown parked.lag (happens-event v w r (Kept event) happens)
-            (set_rule snapped.snapshot.lag (moment r v - snapped.snapshot.since) snapped.pending v.setting.bounds.read_lag) refl stores in
+        (set_rule snapped.snapshot.lag (moment r v - snapped.snapshot.since) snapped.pending v.setting.bounds.read_lag) refl stores in
         let row = store-allowed id (open_view_of view) floor s v n page parked shown both.0 in
         let follows : Follows v w = record { more = []; history = sym (append-nil v.history); setting = refl; issued = λ purge t q i. i } in
-        subst (λ (y : PageAnswer). (u : World) × LeadsTo content faults cache_of old (record old { home = home; west = west; requests = requests }) (Step.Store id) (One (Some (model.Page y))) v u) (answer_same title page snapped n parked.chosen.0 parked.chosen.1)
-        (w, record {
-          takes = at_point (steps.snapped_view (request_at v id)) (open_view_of view, floor, s) id v (Some (model.Page p)) (without_request id (kept v r p n)) (λ y. Stores id y v (Some (model.Page p)) (without_request id (kept v r p n))) (ap steps.snapped_view there) row;
-          counts = a.counted;
-          later = omega arith;
-          agrees = subst (λ (f : FarmParts K S). Agrees content faults cache_of f w) (changed r after after_is other)
-              (agrees-happened content faults cache_of old old.keeper old.ledger requests after v w r (Kept event) happens refl (omega arith) a.messages (λ q purge. receipts r q event purge) (closed v w old.requests requests id follows refl places a.requests) both.1 a);
-        })
+        subst (λ (y : PageAnswer). (u : World) × LeadsTo content faults cache_of old (record old { home = home; west = west; requests = requests }) (Step.Store id) (One (Some (model.Page y))) v u) (answer_same title page snapped n parked.chosen.0 parked.chosen.1) (
+          w,
+          record {
+            takes = at_point (steps.snapped_view (request_at v id)) (open_view_of view, floor, s) id v (Some (model.Page p)) (without_request id (kept v r p n)) (λ y. Stores id y v (Some (model.Page p)) (without_request id (kept v r p n))) (ap steps.snapped_view there) row;
+            counts = a.counted;
+            later = omega arith;
+            agrees = subst (λ (f : FarmParts K S). Agrees content faults cache_of f w) (changed r after after_is other)
+                (agrees-happened content faults cache_of old old.keeper old.ledger requests after v w r (Kept event) happens refl (omega arith) a.messages (λ q purge. receipts r q event purge) (closed v w old.requests requests id follows refl places a.requests) both.1 a);
+          },
+        )
 
     same_parts : (parts : RegionParts S) (before after : S) → parts.cache ≡ Some before → after ≡ before → (let p : RegionParts S = record parts { cache = Some after } in p) ≡ parts
     same_parts parts before after is same i = record parts { cache = (ap Some same ∙ sym is) i }

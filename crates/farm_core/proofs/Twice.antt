@@ -1,6 +1,5 @@
 -- A step that takes a request into its hands and puts another in its place has changed that place once.
-use Rattle.std.proofs.Common.{◌≡◌, ℕ, ◌⊎◌, inl, inr, Option, Some, None, IfSome}
-use Rattle.std.specs.Prelude.{IsSome}
+use Rattle.std.proofs.Common.{ℕ, inl, inr, Option, Some, None}
 use Rattle.wiki_model.specs.Bytes.{Bytes}
 use Rattle.wiki_model.specs.Cache.{Found, Hit, Interim, Missed}
 use Rattle.wiki_model.specs.Answers.{Answer}

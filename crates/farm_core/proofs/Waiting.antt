@@ -1,5 +1,5 @@
 -- The step wait goes on with every run.
-use Rattle.std.proofs.Common.{◌≡◌, ℕ, ◌+◌, ◌≤◌, ◌||◌, Bool, true, false, List, map, Option, Some, None, cond, refl, sym, ap, subst, ◌∙◌, arith}
+use Rattle.std.proofs.Common.{◌≡◌, ℕ, ◌+◌, ◌||◌, Bool, true, false, List, map, Option, Some, None, cond, refl, sym, ap, subst, ◌∙◌, arith}
 use Rattle.std.specs.Prelude.{nat_le}
 use Rattle.wiki_model.specs.declared.Region.{Region}
 use Rattle.wiki_model.specs.declared.Region.TheVariants.{Home, West}
@@ -15,14 +15,14 @@ use Rattle.wiki_model.specs.Runs.{Reply, One, with_faults}
 use Rattle.region_state.specs.declared.open_view.OpenView.{OpenView}
 use Rattle.farm_core.specs.declared.open_request.OpenRequest.TheVariants as point
 use Rattle.region_state.specs.AsModel.{open_view_of, view_of}
-use Rattle.farm_core.specs.RequestMap.{Entries, open_at, arrived_view, Places}
+use Rattle.farm_core.specs.RequestMap.{Entries, open_at, arrived_view}
 use Rattle.farm_core.specs.FarmParts.{FarmParts, moment_of}
 use Rattle.region_state.specs.RegionState.{RegionParts}
-use Rattle.region_state.specs.WaitView.{known_in, lag_in, lag_at, waits}
+use Rattle.region_state.specs.WaitView.{known_in, lag_in, waits}
 use Rattle.farm_core.specs.Agreement.{Agrees, RegionStands}
 use Rattle.farm_core.specs.Runs.{GoesFrom, LeadsTo}
 use Rattle.farm_core.specs.ViewSteps.{Waits, WaitsTo, NoneThere, region_at}
-use Rattle.farm_core.proofs.Points.{AllAgree, placed, closed, put_again, unmoved, at_point, no_point, no_arrived, is_arrived}
+use Rattle.farm_core.proofs.Points.{AllAgree, placed, closed, put_again, at_point, no_point, no_arrived, is_arrived}
 use Rattle.farm_core.proofs.Quiet.{IsQuiet, agrees-quiet, quiet-follows}
 use Rattle.farm_core.proofs.Known.{known_is}
 
@@ -53,13 +53,15 @@ none_goes content faults cache_of old requests id answer v step did a takes =
     let q : IsQuiet v w = record { history = refl; setting = refl; messages = refl; home = refl; west = refl; markup = refl } in
     let fewer = a.counted in
     subst (λ (x : Option Answer). (u : World) × LeadsTo content faults cache_of old (record old { requests = requests }) step (One x) v u) (sym did.0)
-    (subst (λ (es : Entries). (u : World) × LeadsTo content faults cache_of old (record old { requests = es }) step (One (Some (NotOpen id))) v u) (sym did.1)
-      (w, record {
+    (subst (λ (es : Entries). (u : World) × LeadsTo content faults cache_of old (record old { requests = es }) step (One (Some (NotOpen id))) v u) (sym did.1) (
+      w,
+      record {
         takes = takes;
         counts = fewer;
         later = omega arith;
         agrees = calm_agrees content faults cache_of old old.requests v w (record { quiet = q; count = refl; all = λ i. Rattle.farm_core.proofs.Following.agree-later v w (quiet-follows v w q) (open_at old.requests i) (request_at v i) (a.requests i) }) a;
-      }))
+      },
+    ))
 
 -- the region says what the world says
 lag_is : {S : Type 0} (cache_of : S → CacheMap Bytes) (parts : RegionParts S) (v : World) (view : OpenView) → RegionStands cache_of parts v view.region
@@ -84,13 +86,15 @@ wait_goes content faults cache_of old requests id last answer did v fits a = by 
         let q : IsQuiet v w = record { history = refl; setting = refl; messages = refl; home = refl; west = refl; markup = refl } in
         let fewer = a.counted in
         let row : MayWait id last ov v None (with_request id (world.ViewWaited ov (floor_of v ov)) v) = subst (λ x. (None ≡ (waited id ov last v x).0) × (with_request id (world.ViewWaited ov (floor_of v ov)) v ≡ (waited id ov last v x).1)) (sym is) (refl, refl) in
-        subst (λ (x : Option Answer). (u : World) × LeadsTo content faults cache_of old (record old { requests = requests }) (Step.Wait id last) (One x) v u) (sym did.0)
-        (w, record {
-          takes = at_point (Rattle.wiki_model.specs.Steps.arrived_view (request_at v id)) ov id v None (with_request id (world.ViewWaited ov (floor_of v ov)) v) (λ y. MayWait id last y v None (with_request id (world.ViewWaited ov (floor_of v ov)) v)) (ap Rattle.wiki_model.specs.Steps.arrived_view there) row;
-          counts = fewer;
-          later = omega arith;
-          agrees = calm_agrees content faults cache_of old requests v w (record { quiet = q; count = refl; all = placed v w old.requests requests id (point.ViewWaited view (floor_of v ov).need) (world.ViewWaited ov (floor_of v ov)) (quiet-follows v w q) refl did.1 (floor_of v ov, refl, refl) a.requests }) a;
-        })
+        subst (λ (x : Option Answer). (u : World) × LeadsTo content faults cache_of old (record old { requests = requests }) (Step.Wait id last) (One x) v u) (sym did.0) (
+          w,
+          record {
+            takes = at_point (Rattle.wiki_model.specs.Steps.arrived_view (request_at v id)) ov id v None (with_request id (world.ViewWaited ov (floor_of v ov)) v) (λ y. MayWait id last y v None (with_request id (world.ViewWaited ov (floor_of v ov)) v)) (ap Rattle.wiki_model.specs.Steps.arrived_view there) row;
+            counts = fewer;
+            later = omega arith;
+            agrees = calm_agrees content faults cache_of old requests v w (record { quiet = q; count = refl; all = placed v w old.requests requests id (point.ViewWaited view (floor_of v ov).need) (world.ViewWaited ov (floor_of v ov)) (quiet-follows v w q) refl did.1 (floor_of v ov, refl, refl) a.requests }) a;
+          },
+        )
     go view there (Some lag) is true gives did =
         let ov = open_view_of view in
         let w : World = with_faults (faults old.keeper) (without_request id v) in
@@ -98,15 +102,17 @@ wait_goes content faults cache_of old requests id last answer did v fits a = by 
         let fewer = a.counted in
         let said : Option Answer = Some (Lagging lag.by lag.needed lag.reached) in
         let row : MayWait id last ov v said (without_request id v) =
-            subst (λ x. (said ≡ (waited id ov last v x).0) × (without_request id v ≡ (waited id ov last v x).1)) (sym is)
-            (subst (λ c. (said ≡ (cond {A = Option Answer × World} c (said, without_request id v) (None, v)).0) × (without_request id v ≡ (cond {A = Option Answer × World} c (said, without_request id v) (None, v)).1)) (sym gives) (refl, refl)) in
-        subst (λ (x : Option Answer). (u : World) × LeadsTo content faults cache_of old (record old { requests = requests }) (Step.Wait id last) (One x) v u) (sym did.0)
-        (w, record {
-          takes = at_point (Rattle.wiki_model.specs.Steps.arrived_view (request_at v id)) ov id v said (without_request id v) (λ y. MayWait id last y v said (without_request id v)) (ap Rattle.wiki_model.specs.Steps.arrived_view there) row;
-          counts = fewer;
-          later = omega arith;
-          agrees = calm_agrees content faults cache_of old requests v w (record { quiet = q; count = refl; all = closed v w old.requests requests id (quiet-follows v w q) refl did.1 a.requests }) a;
-        })
+        subst (λ x. (said ≡ (waited id ov last v x).0) × (without_request id v ≡ (waited id ov last v x).1)) (sym is)
+        (subst (λ c. (said ≡ (cond {A = Option Answer × World} c (said, without_request id v) (None, v)).0) × (without_request id v ≡ (cond {A = Option Answer × World} c (said, without_request id v) (None, v)).1)) (sym gives) (refl, refl)) in
+        subst (λ (x : Option Answer). (u : World) × LeadsTo content faults cache_of old (record old { requests = requests }) (Step.Wait id last) (One x) v u) (sym did.0) (
+          w,
+          record {
+            takes = at_point (Rattle.wiki_model.specs.Steps.arrived_view (request_at v id)) ov id v said (without_request id v) (λ y. MayWait id last y v said (without_request id v)) (ap Rattle.wiki_model.specs.Steps.arrived_view there) row;
+            counts = fewer;
+            later = omega arith;
+            agrees = calm_agrees content faults cache_of old requests v w (record { quiet = q; count = refl; all = closed v w old.requests requests id (quiet-follows v w q) refl did.1 a.requests }) a;
+          },
+        )
     go view there (Some lag) is false gives did =
         let ov = open_view_of view in
         let w : World = with_faults (faults old.keeper) v in
@@ -114,15 +120,17 @@ wait_goes content faults cache_of old requests id last answer did v fits a = by 
         let fewer = a.counted in
         let said : Option Answer = Some (Lagging lag.by lag.needed lag.reached) in
         let row : MayWait id last ov v None v =
-            subst (λ x. (None ≡ (waited id ov last v x).0) × (v ≡ (waited id ov last v x).1)) (sym is)
-            (subst (λ c. (None ≡ (cond {A = Option Answer × World} c (said, without_request id v) (None, v)).0) × (v ≡ (cond {A = Option Answer × World} c (said, without_request id v) (None, v)).1)) (sym gives) (refl, refl)) in
-        subst (λ (x : Option Answer). (u : World) × LeadsTo content faults cache_of old (record old { requests = requests }) (Step.Wait id last) (One x) v u) (sym did.0)
-        (w, record {
-          takes = at_point (Rattle.wiki_model.specs.Steps.arrived_view (request_at v id)) ov id v None v (λ y. MayWait id last y v None v) (ap Rattle.wiki_model.specs.Steps.arrived_view there) row;
-          counts = fewer;
-          later = omega arith;
-          agrees = calm_agrees content faults cache_of old requests v w (record { quiet = q; count = refl; all = put_again v w old.requests requests id (point.ViewArrived view) (world.ViewArrived ov) (quiet-follows v w q) refl did.1 there refl a.requests }) a;
-        })
+        subst (λ x. (None ≡ (waited id ov last v x).0) × (v ≡ (waited id ov last v x).1)) (sym is)
+        (subst (λ c. (None ≡ (cond {A = Option Answer × World} c (said, without_request id v) (None, v)).0) × (v ≡ (cond {A = Option Answer × World} c (said, without_request id v) (None, v)).1)) (sym gives) (refl, refl)) in
+        subst (λ (x : Option Answer). (u : World) × LeadsTo content faults cache_of old (record old { requests = requests }) (Step.Wait id last) (One x) v u) (sym did.0) (
+          w,
+          record {
+            takes = at_point (Rattle.wiki_model.specs.Steps.arrived_view (request_at v id)) ov id v None v (λ y. MayWait id last y v None v) (ap Rattle.wiki_model.specs.Steps.arrived_view there) row;
+            counts = fewer;
+            later = omega arith;
+            agrees = calm_agrees content faults cache_of old requests v w (record { quiet = q; count = refl; all = put_again v w old.requests requests id (point.ViewArrived view) (world.ViewArrived ov) (quiet-follows v w q) refl did.1 there refl a.requests }) a;
+          },
+        )
 
     by : (found : Option OpenView) → arrived_view (open_at old.requests id) ≡ found → Waits old.home old.west old.moments id last old.requests requests answer found
         → (w : World) × LeadsTo content faults cache_of old (record old { requests = requests }) (Step.Wait id last) (One answer) v w

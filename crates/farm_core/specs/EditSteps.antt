@@ -20,7 +20,7 @@ use Rattle.edit_core.specs.BeginEdit.{Begins}
 use Rattle.edit_core.specs.CommitEdit.{CommitsWithOutcome}
 use Rattle.farm_core.specs.declared.open_request.OpenRequest.TheVariants as point
 use Rattle.farm_core.specs.RequestMap.{Entries, Places, room}
-use Rattle.region_state.specs.RegionState.{RegionParts, OnPositions, with_positions}
+use Rattle.region_state.specs.RegionState.{RegionParts, with_positions}
 use Rattle.farm_core.specs.RelaySteps.{Receives}
 use Rattle.farm_core.specs.ViewSteps.{NoneThere}
 

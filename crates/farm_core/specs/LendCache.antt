@@ -64,4 +64,4 @@ GivesBack {K} {S} content faults cache_of old new r after purges lost =
     → MakesRound r jobs (at_readings at v) answers (rounded r jobs (was_lost answers) (answers_of answers) (at_readings at v))
     → IsGivenBack (at_readings at v) r jobs (was_lost answers) (batch (at_readings at v) r jobs (was_lost answers) (answers_of answers)).rendered (cache_of before) (cache_of after)
     → (w : World) × Stands content faults cache_of new start (round_turn at r jobs answers ∷ turns) w
-        × Leads v (round_turn at r jobs answers) w × (faults lent.keeper ≤ w.faults)
+    × Leads v (round_turn at r jobs answers) w × (faults lent.keeper ≤ w.faults)

@@ -1,5 +1,5 @@
 -- What the steps of a view do with its request and with its region.
-use Rattle.std.specs.Prelude.{ℕ, ◌≡◌, ◌⊎◌, ◌+◌, ◌||◌, ◌↔◌, IsTrue, Bool, false, All, List, [], ◌∷◌, Option, Some, None, IfSome, Result, Ok, Err, IfOk, nat_le, bytes_eq}
+use Rattle.std.specs.Prelude.{ℕ, ◌≡◌, ◌⊎◌, ◌+◌, ◌||◌, ◌↔◌, IsTrue, Bool, false, All, [], ◌∷◌, Option, Some, None, IfSome, Result, Ok, Err, IfOk, nat_le, bytes_eq}
 use Rattle.wiki_model.specs.declared.Region.{Region}
 use Rattle.wiki_model.specs.declared.Region.TheVariants.{Home, West}
 use Rattle.wiki_model.specs.declared.Readings.{Readings}

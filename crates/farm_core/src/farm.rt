@@ -7,13 +7,11 @@ ghost use Rattle.region_state.specs.AsModel.{answer_of};
 ghost use Rattle.farm_core.specs.AppendBeat.{Beats};
 ghost use Rattle.farm_core.specs.NewFarm.{new_fault_of};
 
-use crate::edit_steps;
 use crate::lend_cache::{lend_cache, take_cache};
 use crate::moments::{moment_of, moments_at};
 use crate::open_farm::start;
-use crate::relay_steps;
 use crate::request_map::{Requests, is_open};
-use crate::view_steps;
+use crate::{edit_steps, relay_steps, view_steps};
 use commit_feed::Entry;
 use farm_base::{Moment, Readings, Region};
 use page_render::Page;

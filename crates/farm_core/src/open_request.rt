@@ -10,18 +10,9 @@ pub enum OpenRequest {
     EditBegun(BegunEdit),
     ViewArrived(OpenView),
     /// Its page may not miss the first `need` entries.
-    ViewWaited {
-        view: OpenView,
-        need: u64,
-    },
-    ViewLooked {
-        view: OpenView,
-        need: u64,
-    },
-    ViewSnapped {
-        view: OpenView,
-        snapped: Snapped,
-    },
+    ViewWaited { view: OpenView, need: u64 },
+    ViewLooked { view: OpenView, need: u64 },
+    ViewSnapped { view: OpenView, snapped: Snapped },
     /// A step has the request in its hands.
     Taken,
 }

@@ -23,11 +23,7 @@ pub(crate) fn is_open(requests: &Requests, id: u64) -> bool
 
 /// Opens a request at an id that has none.
 #[tactic(auto, using(crate::proofs::Rooms::room_inserted))]
-pub(crate) fn open(
-    requests: &mut Requests,
-    id: u64,
-    request: OpenRequest,
-) -> Result<(), Memory>
+pub(crate) fn open(requests: &mut Requests, id: u64, request: OpenRequest) -> Result<(), Memory>
     ensures ok { OnOk result (Places requests.old.entries requests.new.entries id (Some request)) }
     ensures err { OnErr result (requests.new.entries ≡ requests.old.entries) }
 {

@@ -69,12 +69,7 @@ fn wait_in<S: RegionStore<Page>>(
 }
 
 #[tactic(auto, using(crate::proofs::Points::placed_twice))]
-fn waited(
-    requests: &mut Requests,
-    id: u64,
-    view: OpenView,
-    outcome: Wait,
-) -> Option<Answer>
+fn waited(requests: &mut Requests, id: u64, view: OpenView, outcome: Wait) -> Option<Answer>
     requires { kept_at requests.old.entries id ≡ Some OpenRequest.Taken }
     ensures { WaitsTo outcome id view requests.old.entries requests.new.entries (option_map answer_of result) }
 {
@@ -257,8 +252,22 @@ fn snap_in<S: RegionStore<Page>>(
     ensures { IfOk result (λ s. SnapsIn (region_at view.now.region home.now west.now) view.now.ask.title need view.now.ask.word pending (moment_of view.now.region at) s) }
 {
     match view.region {
-        Region::Home => home.snap(alloc, &view.ask.title, need, view.ask.word, pending, at.home),
-        Region::West => west.snap(alloc, &view.ask.title, need, view.ask.word, pending, at.west),
+        Region::Home => home.snap(
+            alloc,
+            &view.ask.title,
+            need,
+            view.ask.word,
+            pending,
+            at.home,
+        ),
+        Region::West => west.snap(
+            alloc,
+            &view.ask.title,
+            need,
+            view.ask.word,
+            pending,
+            at.west,
+        ),
     }
 }
 
@@ -358,12 +367,7 @@ fn request_of(at: Readings, asked: Asked) -> OpenRequest
 }
 
 /// The step `arrive`.
-pub(crate) fn arrive(
-    requests: &mut Requests,
-    at: Readings,
-    id: u64,
-    asked: Asked,
-) -> Option<Answer>
+pub(crate) fn arrive(requests: &mut Requests, at: Readings, id: u64, asked: Asked) -> Option<Answer>
     ensures { Arrives at id asked requests.old.entries requests.new.entries (option_map answer_of result) }
 {
     match open(requests, id, request_of(at, asked)) {

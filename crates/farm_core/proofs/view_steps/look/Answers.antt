@@ -1,4 +1,4 @@
-use Rattle.std.proofs.Common.{◌≡◌, ℕ, Some, Option, option_map, sym, subst, ◌∙◌}
+use Rattle.std.proofs.Common.{ℕ, Option, option_map, sym, subst, ◌∙◌}
 use Rattle.wiki_model.specs.Cache.{look}
 use Rattle.wiki_model.proofs.FrameLaws.{if_map}
 use Rattle.wan_cache.specs.Rules.{IsFound}
@@ -21,7 +21,7 @@ returns g c =
     let parts = region_at view.region c.args.home.now c.args.west.now in
     subst (λ (o : Option (OpenView × ℕ)). Looks cache_of c.args.home.now c.args.west.now c.args.at c.args.id old new said o) (sym c.in-Some.is ∙ c.take_waited_view.ensures.value)
     (if_map (λ s. IsFound c.look_in-found.result (look (cache_of s) view.ask.title (moment_of view.region c.args.at) (ask_for parts need)))
-        (λ s. LooksTo c.args.id view need old new said (look (cache_of s) view.ask.title (moment_of view.region c.args.at) (ask_for parts need))) parts.cache
-        (λ s is. looks_twice c.args.id view need old c.take_waited_view.new.requests.entries new said (look (cache_of s) view.ask.title (moment_of view.region c.args.at) (ask_for parts need)) c.in-Some.ensures.taken
-            (c.looked.ensures (look (cache_of s) view.ask.title (moment_of view.region c.args.at) (ask_for parts need)) is))
-        c.look_in-found.ensures)
+    (λ s. LooksTo c.args.id view need old new said (look (cache_of s) view.ask.title (moment_of view.region c.args.at) (ask_for parts need))) parts.cache
+    (λ s is. looks_twice c.args.id view need old c.take_waited_view.new.requests.entries new said (look (cache_of s) view.ask.title (moment_of view.region c.args.at) (ask_for parts need)) c.in-Some.ensures.taken
+    (c.looked.ensures (look (cache_of s) view.ask.title (moment_of view.region c.args.at) (ask_for parts need)) is))
+    c.look_in-found.ensures)

@@ -1,4 +1,4 @@
-use Rattle.std.proofs.Common.{◌≡◌, ℕ, Some, Option, option_map, sym, subst, ◌∙◌}
+use Rattle.std.proofs.Common.{ℕ, Option, option_map, sym, subst, ◌∙◌}
 use Rattle.region_state.specs.declared.open_view.OpenView.{OpenView}
 use Rattle.region_state.specs.AsModel.{answer_of}
 use Rattle.farm_core.specs.ViewSteps.{SnapsTo}

@@ -1,4 +1,4 @@
-use Rattle.std.proofs.Common.{◌≡◌, Some, Option, option_map, sym, subst, ◌∙◌}
+use Rattle.std.proofs.Common.{Option, option_map, sym, subst, ◌∙◌}
 use Rattle.region_state.specs.declared.wait_view.Wait.{Wait}
 use Rattle.region_state.specs.declared.open_view.OpenView.{OpenView}
 use Rattle.region_state.specs.AsModel.{answer_of}

@@ -1,4 +1,4 @@
-use Rattle.std.proofs.Common.{Some, option_map, subst}
+use Rattle.std.proofs.Common.{option_map, subst}
 use Rattle.wiki_model.specs.Steps.{Step}
 use Rattle.wiki_model.specs.Runs.{One}
 use Rattle.region_state.specs.AsModel.{answer_of}
@@ -19,4 +19,4 @@ returns g c =
     let new = c.sweep_home.new.self in
     steps_on content faults cache_of c.args.self.now new c.args.at (Step.Begin c.args.id) (One said) (MovesOn c.args.id ArrivedEdit BeginsAt said)
     (steps_then content faults cache_of (advanced c.args.at c.args.self.now) mid new (Step.Begin c.args.id) (One said) (MovesOn c.args.id ArrivedEdit BeginsAt said)
-      (subst (λ (f : FarmParts g.row.K.Denot g.row.S.Denot). StepsFrom content faults cache_of f mid (Step.Begin c.args.id) (One said) (MovesOn c.args.id ArrivedEdit BeginsAt said)) c.advance.ensures c.begin_now-answer.ensures) c.sweep_home.ensures)
+    (subst (λ (f : FarmParts g.row.K.Denot g.row.S.Denot). StepsFrom content faults cache_of f mid (Step.Begin c.args.id) (One said) (MovesOn c.args.id ArrivedEdit BeginsAt said)) c.advance.ensures c.begin_now-answer.ensures) c.sweep_home.ensures)

@@ -22,4 +22,4 @@ returns g c =
     let step = Step.Carry c.args.number (option_map body_of (option_copied c.args.shown)) in
     steps_on content faults cache_of c.args.self.now new c.args.at step (One said) LeavesRequests
     (steps_then content faults cache_of (advanced c.args.at c.args.self.now) mid new step (One said) LeavesRequests
-      (subst (λ (f : FarmParts g.row.K.Denot g.row.S.Denot). StepsFrom content faults cache_of f mid step (One said) LeavesRequests) c.advance.ensures c.carry_now-answer.ensures) c.sweep_west.ensures)
+    (subst (λ (f : FarmParts g.row.K.Denot g.row.S.Denot). StepsFrom content faults cache_of f mid step (One said) LeavesRequests) c.advance.ensures c.carry_now-answer.ensures) c.sweep_west.ensures)

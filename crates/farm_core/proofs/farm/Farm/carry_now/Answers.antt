@@ -1,4 +1,4 @@
-use Rattle.std.proofs.Common.{Some, Option, option_map, sym, subst}
+use Rattle.std.proofs.Common.{option_map, subst}
 use Rattle.std.specs.Option.{option_copied}
 use Rattle.wiki_model.specs.Steps.{Step}
 use Rattle.wiki_model.specs.Runs.{One}
@@ -7,7 +7,6 @@ use Rattle.purge_relay.specs.AsModel.{body_of}
 use Rattle.farm_core.specs.declared.relay_steps.Carriage.{Carriage}
 use Rattle.region_state.specs.AsModel.{answer_of}
 use Rattle.farm_core.specs.FarmParts.{FarmParts}
-use Rattle.region_state.specs.RegionState.{RegionParts}
 use Rattle.farm_core.specs.RelaySteps.{CarriesAs}
 use Rattle.farm_core.specs.Runs.{StepsFrom}
 use Rattle.farm_core.proofs.Carriages.{carries_as, carry_kept}
@@ -39,7 +38,7 @@ returns g c =
     subst (λ (f : FarmParts g.row.K.Denot g.row.S.Denot). StepsFrom content faults cache_of f new (Step.Carry c.args.number shown) (One said) LeavesRequests) c.self.view_is
     (record {
       goes = carry_goes content faults cache_of old c.carry.new.ledger c.carry.new.west c.args.number shown said
-    (carries_as cache_of old.west c.carry.new.west old.ledger c.carry.new.ledger c.args.number old.moments.west shown said (row_at old.ledger.rows c.args.number) did);
+          (carries_as cache_of old.west c.carry.new.west old.ledger c.carry.new.ledger c.args.number old.moments.west shown said (row_at old.ledger.rows c.args.number) did);
       requests = refl;
       shape = same_shape old old.keeper c.carry.new.ledger old.home c.carry.new.west old.requests old.last_beat (untouched old.home) (carry_shape cache_of old.west c.carry.new.west old.ledger c.carry.new.ledger c.args.number old.moments.west said c.find_carriage-carriage.result c.carry.ensures);
     })

@@ -1,4 +1,4 @@
-use Rattle.std.proofs.Common.{◌≤◌, ◌≡◌, ◌∙◌, ℕ, ap, sym, subst}
+use Rattle.std.proofs.Common.{◌≤◌, ◌∙◌, ap, sym, subst}
 use Rattle.farm_core.specs.FarmParts.{FarmParts, IsFarm, moment_of}
 use Rattle.farm_core.specs.LendCache.{GivesBack}
 use Rattle.farm_core.proofs.Lending.{given_kept}
@@ -24,4 +24,4 @@ returns-clause-stands g c =
     let now = c.requires.now ∙ ap (λ (f : FarmParts g.row.K.Denot g.row.S.Denot). moment_of c.args.region f.moments) (sym c.self.view_is) in
     subst (λ (f : FarmParts g.row.K.Denot g.row.S.Denot). GivesBack content faults cache_of f new c.args.region c.args.lent.cache c.args.receipts.now c.args.lost) c.self.view_is
     (subst (λ (f : FarmParts g.row.K.Denot g.row.S.Denot). GivesBack content faults cache_of old f c.args.region c.args.lent.cache c.args.receipts.now c.args.lost) (λ i. record old { ledger = sym c.receive_all.ensures i; home = sym c.take_cache.ensures.home i; west = sym c.take_cache.ensures.west i })
-      (give_back_goes content faults cache_of old c.args.region c.args.lent.cache c.args.lent.now c.args.receipts.now c.args.lost now))
+    (give_back_goes content faults cache_of old c.args.region c.args.lent.cache c.args.lent.now c.args.receipts.now c.args.lost now))

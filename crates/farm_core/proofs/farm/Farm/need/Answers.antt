@@ -1,7 +1,6 @@
-use Rattle.std.proofs.Common.{Some, None, option_map, subst}
+use Rattle.std.proofs.Common.{None, subst}
 use Rattle.wiki_model.specs.Steps.{Step}
 use Rattle.wiki_model.specs.Runs.{One}
-use Rattle.region_state.specs.AsModel.{answer_of}
 use Rattle.farm_core.specs.FarmParts.{FarmParts}
 use Rattle.farm_core.specs.Runs.{StepsFrom}
 use Rattle.farm_core.proofs.Going.{steps_on}

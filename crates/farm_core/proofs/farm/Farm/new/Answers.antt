@@ -1,4 +1,4 @@
-use Rattle.std.proofs.Common.{◌≡◌, None, Option, List, IfSome, refl, ap, subst, ◌∙◌}
+use Rattle.std.proofs.Common.{None, Option, List, IfSome, refl, ap, subst, ◌∙◌}
 use Rattle.wiki_model.specs.History.{Entry, IsHistory}
 use Rattle.purge_relay.specs.Ledger.{LedgerState}
 use Rattle.farm_core.specs.FarmParts.{FarmParts}

@@ -1,4 +1,4 @@
-use Rattle.std.proofs.Common.{Some, None, option_map, subst}
+use Rattle.std.proofs.Common.{option_map, subst}
 use Rattle.wiki_model.specs.Steps.{Step}
 use Rattle.wiki_model.specs.Runs.{One}
 use Rattle.region_state.specs.AsModel.{answer_of}

@@ -1,10 +1,9 @@
-use Rattle.std.proofs.Common.{◌≡◌, ℕ, List, Option, Some, None, option_map, refl, sym, ap, subst, ◌∙◌}
+use Rattle.std.proofs.Common.{Some, subst}
 use Rattle.wiki_model.specs.Steps.{Step}
 use Rattle.wiki_model.specs.Runs.{One}
 use Rattle.region_state.specs.AsModel.{answer_of}
-use Rattle.farm_core.specs.RequestMap.{open_at, arrived_view, waited_view, snapped_view}
-use Rattle.farm_core.specs.FarmParts.{FarmParts, IsWhole}
-use Rattle.region_state.specs.RegionState.{RegionParts}
+use Rattle.farm_core.specs.RequestMap.{open_at, snapped_view}
+use Rattle.farm_core.specs.FarmParts.{FarmParts}
 use Rattle.farm_core.specs.Runs.{StepsFrom}
 use Rattle.farm_core.proofs.Storing.{store_goes}
 use Rattle.farm_core.proofs.Keeping.{store_kept}
