@@ -1,10 +1,10 @@
 -- The parts of a region, what holds of them at every moment, and how a call changes one of them.
-use Rattle.std.specs.Prelude.{ℕ, ◌≡◌, ◌≤◌, ◌<◌, false, List, length, Option, Some, None, IfSome, slice_get, slice_set}
+use Rattle.std.specs.Prelude.{ℕ, ◌≡◌, ◌⊎◌, ◌≤◌, ◌<◌, false, List, length, Option, Some, None, IfSome, slice_get, slice_set}
 use Rattle.wiki_model.specs.Bytes.{Bytes}
 use Rattle.wiki_model.specs.Limits.{replicas_max}
 use Rattle.wiki_model.specs.Cache.{CacheMap, IsCache}
 use Rattle.replica_apply.specs.Replica.{ReplicaState}
-use Rattle.chronology_store.specs.ChronologyStore.{Positions}
+use Rattle.chronology_store.specs.ChronologyStore.{Positions, Sweeps}
 
 -- what stays the same of a region
 pub record RegionConfig : Type 0 where
@@ -66,3 +66,7 @@ pub record OnReplica {S : Type 0} (i : ℕ) (old new : RegionParts S) (Changes :
   pub there : slice_get old.replicas i ≡ Some before
   pub rest : new ≡ with_replica i after old
   pub changes : Changes before after
+
+-- the positions may be swept
+abbrev pub MaySweep : (now : ℕ) → (old new : Positions) → Type 0
+MaySweep now old new = (new ≡ old) ⊎ Sweeps now old new

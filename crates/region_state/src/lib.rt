@@ -35,6 +35,7 @@ mod region_state;
 mod replica_rows;
 mod snap_view;
 mod store_view;
+mod sweep_positions;
 mod take_purge;
 mod wait_view;
 

@@ -9,6 +9,7 @@ use crate::plan::RegionPlan;
 use crate::replica_rows::rows_at;
 use crate::snap_view::Snapped;
 use crate::store_view::{PageRules, store_into};
+use crate::sweep_positions::{SWEPT_ROWS_LEAST, sweep_doubled};
 use crate::take_purge::take_purge;
 use crate::wait_view::{Wait, wait_at};
 use chronology_store::{ChronologyStore, ClientCommit, RelayAnswer, expiry};
@@ -46,6 +47,8 @@ pub struct RegionState<S: RegionStore<Page>> {
     replicas: Vec<Replica>,
     /// What the region has heard of its clients' commits.
     positions: ChronologyStore,
+    /// How many clients had a row after the last sweep, or the least number that a sweep is for.
+    swept_rows: usize,
     /// Not shared with another thread; None while it is lent.
     cache: Option<S>,
 }
@@ -61,7 +64,7 @@ impl<S: RegionStore<Page>> Model for RegionState<S> {
 }
 
 impl<S: RegionStore<Page>> RegionState<S> {
-    ghost use Rattle.std.specs.Prelude.{◌≡◌, ◌≤◌, ◌<◌, ◌+◌, ◌||◌, false, List, length, Some, None, IsSome, IsTrue, IfSome, IfOk, IfErr, OnOk, OnErr, slice_get, slice_set, nat_le};
+    ghost use Rattle.std.specs.Prelude.{◌≡◌, ◌≤◌, ◌<◌, ◌+◌, ◌||◌, false, List, length, Some, None, IsSome, IsTrue, IfSome, IfOk, IfErr, OnOk, OnErr, slice_get, slice_set, nat_le, is_some};
     ghost use Rattle.wiki_model.specs.Limits.{greatest_moment, bound_max, replicas_max, wait_limit, position_life};
     ghost use Rattle.wiki_model.specs.Cache.{look as look_in};
     ghost use Rattle.wiki_model.specs.CacheCalls.{TakesPurge};
@@ -78,7 +81,7 @@ impl<S: RegionStore<Page>> RegionState<S> {
     ghost use Rattle.edit_core.specs.BeginEdit.{Begins};
     ghost use Rattle.edit_core.specs.CommitEdit.{CommitsWithOutcome};
     ghost use Rattle.region_state.specs.AsModel.{answer_of};
-    ghost use Rattle.region_state.specs.RegionState.{IsBefore, OnCache, OnPositions, OnReplica, with_cache};
+    ghost use Rattle.region_state.specs.RegionState.{IsBefore, MaySweep, OnCache, OnPositions, OnReplica, with_cache};
     ghost use Rattle.region_state.specs.NewRegion.{IsNew};
     ghost use Rattle.region_state.specs.YoungCommits.{AreSmall, commits_of};
     ghost use Rattle.region_state.specs.ApplyEntries.{AppliesTo, TakesEntry};
@@ -111,6 +114,7 @@ impl<S: RegionStore<Page>> RegionState<S> {
             markup: 1,
             replicas,
             positions: ChronologyStore::new(alloc),
+            swept_rows: SWEPT_ROWS_LEAST,
             cache: Some(cache),
         })
     }
@@ -263,6 +267,14 @@ impl<S: RegionStore<Page>> RegionState<S> {
             .take_relay(client, index, position, expiry(stamp))
     }
 
+    /// Forgets the positions that have expired, if the clients with a row have doubled since the last time. It is linear in the
+    /// rows when it does, so a row costs constant time in the long run. It takes no memory.
+    pub fn sweep(&mut self, now: Moment)
+        ensures { OnPositions self.old self.new (MaySweep now) }
+    {
+        sweep_doubled(&mut self.positions, &mut self.swept_rows, now);
+    }
+
     /// Begins an edit over this region's positions, which are home's: `edit_core::begin`.
     pub fn begin<K: Keeper>(
         &mut self,
@@ -310,6 +322,13 @@ impl<S: RegionStore<Page>> RegionState<S> {
         ensures { self.new ≡ record self.old { markup = markup } }
     {
         self.markup = markup;
+    }
+
+    /// Whether the cache is there; it is away while it is lent.
+    pub fn has_cache(&self) -> bool
+        ensures { result ≡ is_some self.now.cache }
+    {
+        self.cache.is_some()
     }
 
     /// Hands out the cache, which is away from then on; None if it is lent already.

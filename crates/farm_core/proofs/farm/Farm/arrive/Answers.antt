@@ -1,0 +1,20 @@
+use Rattle.std.proofs.Common.{option_map, subst}
+use Rattle.wiki_model.specs.Steps.{Step}
+use Rattle.wiki_model.specs.Runs.{One}
+use Rattle.region_state.specs.AsModel.{answer_of, asked_of}
+use Rattle.farm_core.specs.FarmParts.{FarmParts}
+use Rattle.farm_core.specs.Runs.{StepsFrom}
+use Rattle.farm_core.proofs.Going.{steps_on}
+use Rattle.farm_core.specs.RequestLife.{OpensRequest, first_point}
+use Rattle.farm_core.proofs.farm.Farm.arrive.Goals as goal
+
+pub returns : goal.returns
+returns g c =
+    let content = g.K.Keeper.content in
+    let faults = g.K.Keeper.faults in
+    let cache_of = g.S.RegionStore.cache in
+    let said = option_map answer_of c.arrive_now.result in
+    let new = c.arrive_now.new.self in
+    let step = Step.Arrive c.args.id (asked_of c.args.asked) in
+    steps_on content faults cache_of c.args.self.now new c.args.at step (One said) (OpensRequest c.args.id (first_point c.args.asked) said)
+    (subst (λ (f : FarmParts g.row.K.Denot g.row.S.Denot). StepsFrom content faults cache_of f new step (One said) (OpensRequest c.args.id (first_point c.args.asked) said)) c.advance.ensures c.arrive_now.ensures)

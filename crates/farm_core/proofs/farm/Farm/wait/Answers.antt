@@ -1,0 +1,19 @@
+use Rattle.std.proofs.Common.{option_map, subst}
+use Rattle.wiki_model.specs.Steps.{Step}
+use Rattle.wiki_model.specs.Runs.{One}
+use Rattle.region_state.specs.AsModel.{answer_of}
+use Rattle.farm_core.specs.FarmParts.{FarmParts}
+use Rattle.farm_core.specs.Runs.{StepsFrom}
+use Rattle.farm_core.proofs.Going.{steps_on}
+use Rattle.farm_core.specs.RequestLife.{MovesOn, ArrivedView, WaitsAt}
+use Rattle.farm_core.proofs.farm.Farm.wait.Goals as goal
+
+pub returns : goal.returns
+returns g c =
+    let content = g.K.Keeper.content in
+    let faults = g.K.Keeper.faults in
+    let cache_of = g.S.RegionStore.cache in
+    let said = option_map answer_of c.wait_now.result in
+    let new = c.wait_now.new.self in
+    steps_on content faults cache_of c.args.self.now new c.args.at (Step.Wait c.args.id c.args.last) (One said) (MovesOn c.args.id ArrivedView (WaitsAt c.args.last) said)
+    (subst (λ (f : FarmParts g.row.K.Denot g.row.S.Denot). StepsFrom content faults cache_of f new (Step.Wait c.args.id c.args.last) (One said) (MovesOn c.args.id ArrivedView (WaitsAt c.args.last) said)) c.advance.ensures c.wait_now.ensures)
