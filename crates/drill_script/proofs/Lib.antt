@@ -14,3 +14,4 @@ pub mod Reports
 pub mod Summaries
 pub mod ReadLines
 pub mod OneReading
+pub mod Stirs

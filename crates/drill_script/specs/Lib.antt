@@ -8,3 +8,4 @@ pub mod ReadScript
 pub mod Texts
 pub mod Summary
 pub mod Laws
+pub mod Stir

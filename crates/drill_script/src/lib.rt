@@ -24,6 +24,7 @@
 
 mod count_answers;
 mod laws;
+mod make_script;
 mod plan;
 mod read_forms;
 mod report_text;
@@ -34,6 +35,7 @@ mod words;
 
 pub use count_answers::{Summary, count_answer, summary_line};
 pub use laws::scripts_are_one;
+pub use make_script::stir;
 pub use plan::SLOTS;
 pub use report_text::{end_line, page_bytes, report_head, report_line};
 pub use script_line::ScriptLine;
