@@ -1,0 +1,17 @@
+pub mod Numbers
+pub mod Escapes
+pub mod Cuts
+pub mod Exact
+pub mod WordsExact
+pub mod ListsExact
+pub mod FormsExact
+pub mod LinesExact
+pub mod States
+pub mod NextLine
+pub mod Faults
+pub mod Plans
+pub mod Reports
+pub mod Summaries
+pub mod ReadLines
+pub mod OneReading
+pub mod Stirs

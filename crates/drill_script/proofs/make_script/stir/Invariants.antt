@@ -1,0 +1,10 @@
+use Rattle.std.proofs.Common.{◌≡◌, ◌+◌, ◌-◌, ◌++◌}
+use Rattle.wiki_model.specs.Generator.{stirred, stirred_from}
+use Rattle.drill_script.specs.Stir.{IsWithin, stirred_of}
+use Rattle.drill_script.proofs.make_script.stir.Given as goal
+
+abbrev pub invariant-loop-i : goal.invariant-loop-i
+invariant-loop-i l = record {
+  within : IsWithin l.i (stirred_of l.state);
+  lines : l.text.items ++ stirred_from (l.i + 1) (l.steps - l.i) (stirred_of l.state) ≡ stirred l.seed l.steps;
+}

@@ -1,0 +1,11 @@
+pub mod AsModel
+pub mod Words
+pub mod Forms
+pub mod ScriptState
+pub mod ReadSoFar
+pub mod Plan
+pub mod ReadScript
+pub mod Texts
+pub mod Summary
+pub mod Laws
+pub mod Stir
