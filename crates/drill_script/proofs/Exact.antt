@@ -1,9 +1,9 @@
 -- Readers that read exactly what a relation says, and how they are put together: a word, a space, and the rest.
 -- A reader of a word may use that no space stands in it, and each word of the relation has none.
-use Rattle.std.proofs.Common.{◌≡◌, ℕ, [], ◌∷◌, ◌++◌, Option, None, Some, refl, sym, ap, subst, ◌∙◌}
+use Rattle.std.proofs.Common.{◌≡◌, ◌∷◌, ◌++◌, Option, None, Some, refl, ap, ◌∙◌}
 use Rattle.std.proofs.lemmas.Option.{none-some, same_Some}
 use Rattle.wiki_model.specs.Bytes.{Bytes}
-use Rattle.drill_script.specs.Words.{◌>>=◌, word_at, cut_first}
+use Rattle.drill_script.specs.Words.{◌>>=◌, word_at}
 use Rattle.drill_script.proofs.Cuts.{Without, cut_found, cut_made}
 
 pub bind_some : {A B : Type 0} (o : Option A) (f : A → Option B) (y : B) → (o >>= f) ≡ Some y → (x : A) × (o ≡ Some x) × (f x ≡ Some y)

@@ -1,17 +1,16 @@
 -- Reading line by line finds the first line that is none. What was read is a prefix of the bytes; whatever the reader
 -- refuses next, no line of the bytes goes on from there, since a first line and its line feed stand at one place only.
-use Rattle.std.proofs.Common.{◌≡◌, ◌≢◌, ℕ, suc, ◌<◌, ◌≤◌, ◌+◌, Bool, true, false, cond, ◌==◌, ◌&&◌, ◌||◌, List, [], ◌∷◌, ◌++◌, length, All, Option, None, Some, refl, sym, ap, subst, ◌∙◌, arith, append_assoc, append-nil, option_map}
+use Rattle.std.proofs.Common.{◌≡◌, ◌≢◌, ℕ, ◌≤◌, ◌+◌, Bool, true, false, cond, ◌&&◌, ◌||◌, List, [], ◌∷◌, ◌++◌, length, Option, None, Some, refl, sym, ap, subst, ◌∙◌, arith, append_assoc, append-nil, option_map}
 use Rattle.std.specs.Prelude.{IsUtf8, nat_eq}
 use Rattle.std.proofs.lemmas.Bool.Decides.{nat_tests}
 use Rattle.std.proofs.lemmas.List.{length-append}
 use Rattle.std.proofs.lemmas.List.Elements.{All-cons, All-nil, All-head, All-tail}
-use Rattle.std.proofs.lemmas.Option.{none-some, same_Some}
 use Rattle.wiki_model.specs.Bytes.{Bytes, cut_at}
 use Rattle.wiki_model.specs.Limits.{script_max}
 use Rattle.wiki_model.specs.Script.{Line, AreLines, IsScript, IsFirstFault, MayFollow, Spells}
 use Rattle.wiki_model.specs.Script.Line.{End}
 use Rattle.drill_script.specs.declared.script_state.ScriptState.{ScriptState}
-use Rattle.drill_script.specs.ScriptState.{is_end, has_end, state_after, noted, IsStateOf, IsNextLine}
+use Rattle.drill_script.specs.ScriptState.{is_end, has_end, IsStateOf, IsNextLine}
 use Rattle.drill_script.specs.ReadSoFar.{IsLineOfBytes, IsLineCut, IsReadSoFar}
 use Rattle.drill_script.proofs.States.{is_the_end, end_more, ends_not}
 

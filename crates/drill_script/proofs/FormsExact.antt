@@ -1,25 +1,20 @@
 -- The forms are read exactly as `Spells` says: whatever is read is spelled so, and whatever is spelled is read.
 -- Each form is a sequence of words, so each proof puts exact readers of words in a row, and then says the same in the
 -- words of `Spells`.
-use Rattle.std.proofs.Common.{◌≡◌, ℕ, ◌<◌, ◌≤◌, ◌+◌, ◌-◌, ◌^◌, Bool, true, false, cond, not, ◌==◌, List, [], ◌∷◌, ◌++◌, length, All, Option, None, Some, refl, sym, ap, subst, ◌∙◌, arith, ◌⊎◌}
-use Rattle.std.specs.Prelude.{codes, decimal}
-use Rattle.std.specs.List.{list_all}
-use Rattle.std.specs.Str.{bytes_eq}
-use Rattle.std.proofs.lemmas.Option.{none-some, same_Some}
+use Rattle.std.proofs.Common.{◌≡◌, ℕ, ◌<◌, ◌-◌, ◌^◌, Bool, List, [], ◌∷◌, ◌++◌, Option, Some, refl, ap, subst, ◌∙◌, arith}
+use Rattle.std.specs.Prelude.{decimal}
 use Rattle.wiki_model.specs.declared.Region.{Region}
 use Rattle.wiki_model.specs.Bytes.{Bytes}
 use Rattle.wiki_model.specs.History.{Edit}
 use Rattle.wiki_model.specs.Limits.{number_limit, greatest_moment, id_limit, replicas_max, bound_max, count_max}
 use Rattle.wiki_model.specs.Titles.{Client, Token, Title, Text}
-use Rattle.wiki_model.specs.World.{Asked, View, Cookie}
-use Rattle.wiki_model.specs.World.Asked.{AskedView, AskedEdit}
-use Rattle.wiki_model.specs.Script.{Line, words, weights_word, region_word, SpellsClient, SpellsToken, SpellsTitle, SpellsText, SpellsCookie, SpellsEdit, SpellsView, SpellsAsked, Spells}
-use Rattle.wiki_model.specs.Script.Line.{FarmLine, BoundsLine, At, BeatLine, ApplyLine, EditLine, ViewLine, Open, BeginLine, CommitLine, WaitLine, LookLine, SnapLine, StoreLine, CarryLine, DropLine, MarkupLine, End}
+use Rattle.wiki_model.specs.World.{View, Cookie}
+use Rattle.wiki_model.specs.Script.{Line, words, region_word, SpellsClient, SpellsToken, SpellsTitle, SpellsText, SpellsCookie}
+use Rattle.wiki_model.specs.Script.Line.{FarmLine, BoundsLine, At, ApplyLine}
 use Rattle.drill_script.specs.Words.{◌>>=◌, word_at, number_of, positive_of, largest, client_in, region_in, token_in, title_in, last_title, text_in, weights_in, cookie_in}
-use Rattle.drill_script.specs.Forms.{edit_in, view_in, asked_named, asked_in, open_in, farm_in, bounds_in, at_in, apply_in, id_line, number_line, numbered, named, worded, said_by}
-use Rattle.drill_script.proofs.Cuts.{Without, cut_found, cut_made, all_without}
-use Rattle.drill_script.proofs.Exact.{bind_some, bind_is, Exact, ExactWord, Then, seq, Last, last}
-use Rattle.drill_script.proofs.WordsExact.{IsNumber, number_exact, number_word, IsPositive, positive_exact, positive_word, client_word, SpellsRegion, region_exact, token_word, title_word, last_title_exact, text_exact, same_bytes, fits, number_said, positive_said, number_read, positive_read}
+use Rattle.drill_script.specs.Forms.{edit_in, view_in, farm_in, bounds_in, at_in, apply_in}
+use Rattle.drill_script.proofs.Exact.{Exact, Then, seq, Last, last}
+use Rattle.drill_script.proofs.WordsExact.{IsNumber, number_exact, number_word, IsPositive, positive_exact, client_word, SpellsRegion, region_exact, token_word, title_word, last_title_exact, text_exact, fits}
 use Rattle.drill_script.proofs.ListsExact.{AreWeights, weights_exact, SpellsBoth, cookie_word}
 
 -- Edits

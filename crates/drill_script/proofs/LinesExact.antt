@@ -1,22 +1,21 @@
 -- A line is read exactly where its bytes spell it, and so bytes spell at most one line.
-use Rattle.std.proofs.Common.{◌≡◌, ℕ, zero, ◌<◌, ◌≤◌, ◌+◌, ◌-◌, ◌^◌, Bool, true, false, cond, not, ◌==◌, List, [], ◌∷◌, ◌++◌, length, All, Option, None, Some, refl, sym, ap, subst, ◌∙◌, arith, ◌⊎◌, inl, inr, suc}
+use Rattle.std.proofs.Common.{◌≡◌, ℕ, zero, ◌<◌, ◌≤◌, ◌-◌, ◌^◌, Bool, true, false, cond, not, ◌==◌, [], ◌∷◌, ◌++◌, Option, None, Some, refl, sym, ap, subst, ◌∙◌, arith, ◌⊎◌, inl, inr, suc}
 use Rattle.std.specs.Prelude.{codes, decimal, IsUtf8}
 use Rattle.std.specs.List.{list_all}
 use Rattle.std.specs.Str.{bytes_eq, is_utf8}
 use Rattle.std.proofs.lemmas.Option.{none-some, same_Some}
 use Rattle.std.proofs.lemmas.Str.{IsUtf8-from_is_utf8, is_utf8-from_IsUtf8}
-use Rattle.wiki_model.specs.declared.Region.{Region}
 use Rattle.wiki_model.specs.Bytes.{Bytes}
-use Rattle.wiki_model.specs.Limits.{number_limit, greatest_moment, id_limit, replicas_max, bound_max, count_max}
+use Rattle.wiki_model.specs.Limits.{number_limit, id_limit}
 use Rattle.wiki_model.specs.World.{Asked}
 use Rattle.wiki_model.specs.World.Asked.{AskedView, AskedEdit}
-use Rattle.wiki_model.specs.Script.{Line, words, weights_word, region_word, IsWeights, SpellsAsked, SpellsId, SpellsNumber, Spells}
+use Rattle.wiki_model.specs.Script.{Line, words, weights_word, region_word, SpellsAsked, SpellsId, SpellsNumber, Spells}
 use Rattle.wiki_model.specs.Script.Line.{FarmLine, BoundsLine, At, BeatLine, ApplyLine, EditLine, ViewLine, Open, BeginLine, CommitLine, WaitLine, LookLine, SnapLine, StoreLine, CarryLine, DropLine, MarkupLine, End}
-use Rattle.drill_script.specs.Words.{◌>>=◌, word_at, number_of, positive_of, largest, utf8_of}
+use Rattle.drill_script.specs.Words.{◌>>=◌, word_at, number_of, positive_of, largest}
 use Rattle.drill_script.specs.Forms.{edit_in, view_in, asked_named, asked_in, open_in, farm_in, bounds_in, at_in, apply_in, id_line, number_line, numbered, named, worded, said_by, line_in}
 use Rattle.drill_script.proofs.Cuts.{Without, cut_found, cut_made, all_without}
-use Rattle.drill_script.proofs.Exact.{bind_some, bind_is, Exact}
-use Rattle.drill_script.proofs.WordsExact.{decimal_without, IsPositive, positive_exact, positive_word, same_bytes, fits, number_said, positive_said, number_read, positive_read}
+use Rattle.drill_script.proofs.Exact.{bind_some, bind_is}
+use Rattle.drill_script.proofs.WordsExact.{decimal_without, same_bytes, fits, number_said, positive_said, number_read, positive_read}
 use Rattle.drill_script.proofs.FormsExact.{edit_exact, edit_said, edit_spelled, SpellsEditWords, view_exact, view_said, view_spelled, SpellsViewWords, farm_exact, bounds_exact, at_exact, apply_exact, id_fits}
 
 -- a replica's number is read up to the greatest

@@ -1,5 +1,5 @@
 -- Weights and cookies are read exactly as they are spelled.
-use Rattle.std.proofs.Common.{◌≡◌, ◌≢◌, ℕ, zero, suc, ◌<◌, ◌≤◌, ◌+◌, ◌-◌, ◌^◌, Bool, true, false, cond, nat_lt, nat_le, ◌==◌, List, [], ◌∷◌, ◌++◌, length, All, Option, None, Some, refl, sym, ap, subst, ◌∙◌, arith, append-nil, append_assoc}
+use Rattle.std.proofs.Common.{◌≡◌, ℕ, zero, suc, ◌<◌, ◌≤◌, ◌-◌, ◌^◌, Bool, true, false, List, [], ◌∷◌, ◌++◌, length, All, Option, None, Some, refl, sym, ap, subst, ◌∙◌, arith, append-nil, append_assoc}
 use Rattle.std.specs.Prelude.{codes, decimal, if◌then◌else◌}
 use Rattle.std.specs.Str.{bytes_eq}
 use Rattle.std.proofs.lemmas.List.Elements.{All-cons, All-nil, All-head, All-tail}
@@ -9,8 +9,8 @@ use Rattle.wiki_model.specs.Limits.{number_limit, seconds_limit, weight_max}
 use Rattle.wiki_model.specs.Titles.{Client}
 use Rattle.wiki_model.specs.World.{Cookie}
 use Rattle.wiki_model.specs.Script.{SpellsCookie, cookie_text, weights_word}
-use Rattle.drill_script.specs.Words.{◌>>=◌, word_at, cut_first, number_of, positive_of, largest, one_weight, weights_cut, weights_in, plus_cut, before_plus, position_in, cookie_in}
-use Rattle.drill_script.proofs.Cuts.{Without, cut_found, cut_made, cut_none, cut_nowhere}
+use Rattle.drill_script.specs.Words.{◌>>=◌, cut_first, number_of, positive_of, largest, one_weight, weights_cut, weights_in, plus_cut, before_plus, position_in, cookie_in}
+use Rattle.drill_script.proofs.Cuts.{Without, cut_found, cut_made, cut_none}
 use Rattle.drill_script.proofs.Exact.{bind_some, bind_is, ExactWord}
 use Rattle.drill_script.proofs.WordsExact.{number_said, number_read, positive_said, positive_read, decimal_without, same_bytes, fits}
 

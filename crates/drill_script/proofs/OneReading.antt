@@ -1,14 +1,11 @@
 -- The same bytes are at most one script. Two readings cut the same first line, and a line that is spelled and may stand
 -- there is what reading the line gives, so it is the same line; and so on with the rest.
-use Rattle.std.proofs.Common.{◌≡◌, ◌≢◌, ℕ, List, [], ◌∷◌, ◌++◌, All, Some, refl, sym, ap, subst, ◌∙◌, arith}
-use Rattle.std.specs.Prelude.{IsUtf8}
+use Rattle.std.proofs.Common.{◌≡◌, List, [], ◌∷◌, ◌++◌, refl, sym, ap, subst, ◌∙◌, arith}
 use Rattle.std.proofs.lemmas.Option.{same_Some}
 use Rattle.wiki_model.specs.Bytes.{Bytes}
-use Rattle.wiki_model.specs.Script.{Line, Spells, MayFollow, AreLines}
-use Rattle.drill_script.specs.Forms.{replica_most, line_in}
+use Rattle.wiki_model.specs.Script.{Line, Spells, AreLines}
 use Rattle.drill_script.specs.Laws.{ScriptsAreOne}
 use Rattle.drill_script.specs.ScriptState.{state_after, noted, IsStateOf, IsNextLine}
-use Rattle.drill_script.specs.ReadSoFar.{IsLineOfBytes}
 use Rattle.drill_script.specs.declared.script_state.ScriptState.{ScriptState}
 use Rattle.drill_script.proofs.Faults.{same_line}
 use Rattle.drill_script.proofs.States.{next_is_read, state_on}

@@ -1,16 +1,14 @@
 -- The layout that the first lines tell is the setting of the model.
-use Rattle.std.proofs.Common.{◌≡◌, ℕ, Bool, List, [], ◌∷◌, Option, None, Some, refl, sym, ap, ◌∙◌, map, option_map}
+use Rattle.std.proofs.Common.{◌≡◌, ℕ, Bool, List, [], ◌∷◌, Option, refl, sym, ap, ◌∙◌, option_map}
 use Rattle.std.specs.Prelude.{slice_get}
 use Rattle.std.proofs.lemmas.Option.{slice_get-map}
 use Rattle.wiki_model.specs.declared.Region.{Region}
 use Rattle.wiki_model.specs.declared.Region.TheVariants.{Home, West}
-use Rattle.wiki_model.specs.Limits.{Bounds}
 use Rattle.wiki_model.specs.Report.{bounds_of, script_setting}
 use Rattle.wiki_model.specs.Script.{Line}
 use Rattle.wiki_model.specs.Script.Line.{FarmLine, BoundsLine, At, BeatLine, ApplyLine, EditLine, ViewLine, Open, BeginLine, CommitLine, WaitLine, LookLine, SnapLine, StoreLine, CarryLine, DropLine, MarkupLine, End}
 use Rattle.wiki_model.specs.Titles.{Title}
 use Rattle.farm_base.specs.AsModel as base
-use Rattle.region_state.specs.AsModel.{IsPlanOf}
 use Rattle.region_state.specs.declared.plan.FarmPlan.{FarmPlan}
 use Rattle.drill_script.specs.AsModel.{line_of}
 use Rattle.drill_script.specs.Plan.{weights_told, epoch_told, bounds_at, bounds_told}

@@ -1,10 +1,10 @@
 -- What the reader of lines answers, from what is known between two lines.
-use Rattle.std.proofs.Common.{◌≡◌, ℕ, ◌<◌, ◌≤◌, ◌+◌, Bool, true, false, ◌&&◌, ◌==◌, List, [], ◌∷◌, ◌++◌, length, Option, Some, None, Result, Ok, Err, refl, sym, ap, subst, ◌∙◌, arith}
+use Rattle.std.proofs.Common.{◌≡◌, ℕ, ◌<◌, ◌≤◌, ◌+◌, Bool, true, false, ◌==◌, List, [], ◌∷◌, ◌++◌, length, Some, None, Ok, Err, sym, ap, subst, ◌∙◌, arith}
 use Rattle.std.proofs.lemmas.List.{length-append}
 use Rattle.wiki_model.specs.Bytes.{Bytes}
 use Rattle.wiki_model.specs.Script.{Line, IsScript, IsFirstFault}
 use Rattle.drill_script.specs.AsModel.{line_of}
-use Rattle.drill_script.specs.ScriptState.{IsNextLine, IsStateOf, ReadsLine}
+use Rattle.drill_script.specs.ScriptState.{ReadsLine}
 use Rattle.drill_script.specs.ReadScript.{lines_of, IsFaultOf}
 use Rattle.drill_script.specs.ReadSoFar.{IsLineCut, IsReadSoFar}
 use Rattle.drill_script.specs.declared.script_line.ScriptLine.{ScriptLine}

@@ -1,9 +1,9 @@
 -- The printed texts are the model's, and so are the lines of one answer.
-use Rattle.std.proofs.Common.{◌≡◌, ℕ, Bool, true, false, cond, not, List, [], ◌∷◌, ◌++◌, length, refl, sym, ap, ◌∙◌, append_assoc}
+use Rattle.std.proofs.Common.{◌≡◌, ℕ, Bool, not, List, [], ◌∷◌, ◌++◌, length, refl, sym, ap, ◌∙◌, append_assoc}
 use Rattle.std.specs.Prelude.{codes, decimal}
 use Rattle.std.specs.Arc.{arc_value}
 use Rattle.wiki_model.specs.Bytes.{Bytes}
-use Rattle.wiki_model.specs.Report.{origin_text, put_text, by_text, cause_text, answer_text, page_of, report_line, end_line}
+use Rattle.wiki_model.specs.Report.{origin_text, by_text, answer_text, page_of, report_line, end_line}
 use Rattle.region_state.specs.AsModel.{answer_of}
 use Rattle.region_state.specs.declared.answer.Answer.{Answer}
 use Rattle.region_state.specs.declared.answer.Answer.TheVariants as answers

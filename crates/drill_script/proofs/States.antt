@@ -1,6 +1,5 @@
 -- The state of a script's reader tells exactly which lines may follow, and is kept by one more line.
-use Rattle.std.proofs.Common.{◌≡◌, ◌≢◌, ℕ, zero, suc, ◌<◌, ◌≤◌, ◌+◌, ◌^◌, Bool, true, false, cond, not, ◌&&◌, ◌||◌, nat_lt, List, [], ◌∷◌, ◌++◌, length, All, Option, None, Some, refl, sym, ap, subst, ◌∙◌, arith, ◌⊎◌, inl, inr, max}
-use Rattle.std.specs.Prelude.{IsUtf8}
+use Rattle.std.proofs.Common.{◌≡◌, ◌≢◌, ℕ, ◌<◌, ◌≤◌, ◌^◌, Bool, true, false, cond, not, ◌&&◌, ◌||◌, nat_lt, List, [], ◌∷◌, ◌++◌, All, None, Some, refl, sym, ap, subst, ◌∙◌, arith, ◌⊎◌, inl, inr, max}
 use Rattle.std.proofs.lemmas.Bool.Decides.{nat_tests}
 use Rattle.std.proofs.lemmas.List.Elements.{All-cons, All-nil, All-head, All-tail}
 use Rattle.std.proofs.lemmas.Option.{none-some, same_Some}
@@ -14,7 +13,7 @@ use Rattle.drill_script.specs.Forms.{line_in}
 use Rattle.drill_script.specs.declared.script_state.ScriptState.{ScriptState}
 use Rattle.drill_script.specs.ScriptState.{is_end, is_farm, opened_id, replicas_by, has_none, has_farm_alone, replicas_told, greatest_id, has_end, state_after, noted, replicas_in, in_place, fits, IsStateOf, IsNextLine}
 use Rattle.drill_script.proofs.WordsExact.{both}
-use Rattle.drill_script.proofs.LinesExact.{HasReplica, IsSpelled, line_said, line_read}
+use Rattle.drill_script.proofs.LinesExact.{HasReplica, line_said, line_read}
 
 no_clash : true ≡ false → ⊥
 no_clash e = cc

@@ -1,7 +1,7 @@
 -- Each reader of a word reads exactly the word's spelling.
-use Rattle.std.proofs.Common.{◌≡◌, ◌≢◌, ℕ, zero, suc, ◌<◌, ◌≤◌, ◌+◌, ◌-◌, ◌^◌, Bool, true, false, cond, not, ◌&&◌, ◌||◌, nat_lt, nat_le, ◌==◌, List, [], ◌∷◌, ◌++◌, length, get_or, All, Option, None, Some, Result, Ok, Err, refl, sym, ap, subst, ◌∙◌, arith, rules, map, append-nil}
-use Rattle.std.specs.Prelude.{IsTrue, codes, decimal, slice_index, IfSome, position, if◌then◌else◌}
-use Rattle.std.specs.List.{list_all, list_any, position_or_len, join_with_byte}
+use Rattle.std.proofs.Common.{◌≡◌, ◌≢◌, ℕ, zero, suc, ◌<◌, ◌≤◌, ◌+◌, ◌^◌, Bool, true, false, cond, not, ◌&&◌, ◌||◌, nat_lt, nat_le, ◌==◌, [], ◌∷◌, length, get_or, All, Option, None, Some, Result, Ok, Err, refl, sym, ap, subst, ◌∙◌, arith}
+use Rattle.std.specs.Prelude.{codes, decimal, slice_index, IfSome, position, if◌then◌else◌}
+use Rattle.std.specs.List.{list_all, position_or_len}
 use Rattle.std.specs.Str.{bytes_eq}
 use Rattle.std.specs.Str.Parse.{digits_value}
 use Rattle.std.proofs.lemmas.Bool.Decides.{nat_tests}
@@ -12,15 +12,14 @@ use Rattle.std.proofs.lemmas.Option.{none-some, same_Some}
 use Rattle.std.proofs.lemmas.Slice.Eq.{bytes_eq-Decides}
 use Rattle.wiki_model.specs.declared.Region.{Region}
 use Rattle.wiki_model.specs.declared.Region.TheVariants.{Home, West}
-use Rattle.wiki_model.specs.Bytes.{Bytes, is_empty}
+use Rattle.wiki_model.specs.Bytes.{Bytes}
 use Rattle.wiki_model.specs.Html.{ok_of}
-use Rattle.wiki_model.specs.Limits.{number_limit, seconds_limit, weight_max, text_max}
-use Rattle.wiki_model.specs.Titles.{Title, TitleRefusal, Empty, TooLong, BadCharacter, Client, is_digit, is_letter, is_token, is_bad, title_of, title_text, has_no_name, good_characters, with_line_feeds}
-use Rattle.wiki_model.specs.World.{Cookie}
-use Rattle.wiki_model.specs.Script.{client_number, unescaped, SpellsClient, SpellsToken, SpellsTitle, SpellsText, SpellsCookie, IsWord, region_word, cookie_text, IsWeights, weights_word}
-use Rattle.drill_script.specs.Words.{◌>>=◌, word_at, cut_first, is_number, number_of, positive_of, largest, client_in, region_in, token_in, title_in, uncut_title, last_title, short_text, text_in, one_weight, weights_cut, weights_in, plus_cut, before_plus, position_in, cookie_in}
+use Rattle.wiki_model.specs.Limits.{text_max}
+use Rattle.wiki_model.specs.Titles.{Title, TitleRefusal, Empty, TooLong, is_digit, is_letter, is_token, is_bad, title_of, title_text, has_no_name, good_characters, with_line_feeds}
+use Rattle.wiki_model.specs.Script.{client_number, unescaped, SpellsClient, SpellsToken, SpellsTitle, SpellsText, region_word}
+use Rattle.drill_script.specs.Words.{◌>>=◌, word_at, is_number, number_of, positive_of, largest, client_in, region_in, token_in, title_in, uncut_title, last_title, short_text, text_in}
 use Rattle.drill_script.proofs.Numbers.{own}
-use Rattle.drill_script.proofs.Cuts.{Without, cut_found, cut_made, cut_nowhere, cut_none, all_without}
+use Rattle.drill_script.proofs.Cuts.{Without, cut_nowhere, cut_none, all_without}
 use Rattle.drill_script.proofs.Exact.{bind_some, bind_is, Exact, ExactWord}
 
 pub both : (a b : Bool) → (a && b) ≡ true → (a ≡ true) × (b ≡ true)

@@ -1,5 +1,4 @@
 -- What the lines of this crate stand for in the model.
-use Rattle.std.specs.Prelude.{ℕ}
 use Rattle.wiki_model.specs.Script.{Line}
 use Rattle.wiki_model.specs.Script as model
 use Rattle.farm_base.specs.AsModel.{bounds_of}

@@ -1,21 +1,17 @@
 -- What reading a script answers.
-use Rattle.std.specs.Prelude.{ℕ, ◌≡◌, ◌≢◌, ◌+◌, Bool, true, List, [], ◌∷◌, ◌++◌, length, map, All, Option, None, Some, Result, Ok, Err}
+use Rattle.std.specs.Prelude.{Bool, List, map, Result, Ok, Err}
 use Rattle.wiki_model.specs.declared.Region.{Region}
-use Rattle.wiki_model.specs.Bytes.{Bytes, line_feed}
-use Rattle.wiki_model.specs.Limits.{script_max}
+use Rattle.wiki_model.specs.Bytes.{Bytes}
 use Rattle.wiki_model.specs.Report.{script_setting}
-use Rattle.wiki_model.specs.Script.{Line, AreLines, IsScript, IsFirstFault}
-use Rattle.wiki_model.specs.Script.Line.{End}
+use Rattle.wiki_model.specs.Script.{Line, IsScript, IsFirstFault}
 use Rattle.wiki_model.specs.Titles.{Title}
 use Rattle.region_state.specs.AsModel.{IsPlanOf}
 use Rattle.region_state.specs.declared.plan.FarmPlan.{FarmPlan}
 use Rattle.drill_script.specs.AsModel.{line_of}
-use Rattle.drill_script.specs.ScriptState.{IsStateOf}
 use Rattle.drill_script.specs.declared.whole_script.Script.{Script}
 use Rattle.drill_script.specs.declared.whole_script.ScriptFault.{ScriptFault}
 use Rattle.drill_script.specs.declared.whole_script.ScriptFault.TheVariants as faults
 use Rattle.drill_script.specs.declared.script_line.ScriptLine.{ScriptLine}
-use Rattle.drill_script.specs.declared.script_state.ScriptState.{ScriptState}
 
 abbrev pub lines_of : List ScriptLine → List Line
 lines_of lines = map line_of lines

@@ -5,7 +5,7 @@ use Rattle.wiki_model.specs.declared.Region.{Region}
 use Rattle.wiki_model.specs.declared.Region.TheVariants.{Home, West}
 use Rattle.wiki_model.specs.Bytes.{Bytes}
 use Rattle.wiki_model.specs.Limits.{replicas_max}
-use Rattle.wiki_model.specs.Script.{Line, Spells, MayFollow, replicas_of}
+use Rattle.wiki_model.specs.Script.{Line, Spells, MayFollow}
 use Rattle.wiki_model.specs.Script.Line.{FarmLine, BoundsLine, ApplyLine, Open, End}
 use Rattle.drill_script.specs.AsModel.{line_of}
 use Rattle.drill_script.specs.Words.{◌>>=◌}

@@ -1,6 +1,6 @@
 -- The generator's state and texts as the code keeps and prints them.
 -- A printed line is put together from the right; that it is the model's is proved in proofs/Stirs.antt.
-use Rattle.std.specs.Prelude.{ℕ, ◌≡◌, ◌≤◌, ◌<◌, ◌+◌, ◌-◌, ◌*◌, ◌==◌, ◌&&◌, if◌then◌else◌, nat_lt, slice_index, slice_set, ◌/◌, ◌%◌, ◌^◌, All, List, [], ◌∷◌, ◌++◌, length, codes, decimal}
+use Rattle.std.specs.Prelude.{ℕ, ◌≤◌, ◌<◌, ◌+◌, ◌-◌, ◌*◌, ◌==◌, ◌&&◌, if◌then◌else◌, nat_lt, slice_index, slice_set, ◌/◌, ◌%◌, ◌^◌, All, [], ◌∷◌, ◌++◌, codes, decimal}
 use Rattle.wiki_model.specs.Bytes.{Bytes}
 use Rattle.wiki_model.specs.Generator.{Stirred, seed_after, next_seed}
 use Rattle.drill_script.specs.declared.make_script.Stirring.{Stirring}

@@ -1,6 +1,6 @@
 -- The texts of answers, put together from the right as they are printed.
 -- Each is the model's text of the same answer.
-use Rattle.std.specs.Prelude.{ℕ, Bool, [], ◌++◌, length, if◌then◌else◌, Option, None, Some, codes, decimal}
+use Rattle.std.specs.Prelude.{ℕ, Bool, [], ◌++◌, length, if◌then◌else◌, codes, decimal}
 use Rattle.std.specs.Arc.{arc_value}
 use Rattle.wiki_model.specs.declared.Behind.{Behind}
 use Rattle.wiki_model.specs.Bytes.{Bytes}

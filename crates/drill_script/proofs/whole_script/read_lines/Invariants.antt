@@ -1,4 +1,4 @@
-use Rattle.std.proofs.Common.{◌≡◌, ◌+◌, ◌≤◌, length}
+use Rattle.std.proofs.Common.{length}
 use Rattle.drill_script.specs.ReadScript.{lines_of}
 use Rattle.drill_script.specs.ReadSoFar.{IsReadSoFar}
 use Rattle.drill_script.proofs.whole_script.read_lines.Given as goal
