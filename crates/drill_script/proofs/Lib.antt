@@ -14,4 +14,3 @@ pub mod Reports
 pub mod Summaries
 pub mod ReadLines
 pub mod OneReading
-pub mod Stirs

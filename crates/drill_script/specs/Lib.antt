@@ -8,4 +8,3 @@ pub mod ReadScript
 pub mod Texts
 pub mod Summary
 pub mod Laws
-pub mod Stir

@@ -1,5 +1,4 @@
-//! Scripts of a farm's steps, the reports of their answers, and the scripts that a generator makes: text over plain
-//! values, with no farm.
+//! Scripts of a farm's steps, and the reports of their answers: text over plain values, with no farm.
 //!
 //! A script is lines, each ended by a line feed, the last of them `end`. Whoever reads bytes that someone typed has to
 //! say exactly which line is the first that is wrong, and here is why that is possible: whether a line may stand where it
@@ -10,21 +9,20 @@
 //! ([`scripts_are_one`]).
 //!
 //! The other way round, [`report_line`] writes the text of an answer, [`end_line`] the last line, and [`summary_line`] what
-//! was counted of the answers. [`stir`] makes a script from a seed and a number of steps, the same each time.
+//! was counted of the answers.
 //!
-//! What is left to others: what a line does ([`region_state`] and the farm above it), where bytes come from and go to.
+//! What is left to others: what a line does ([`region_state`] and the farm above it), which scripts a generator makes
+//! (`script_generator`), where bytes come from and go to.
 //!
 //! ```text
 //! read_script("farm 3,1 2,1 0\nend\n")      two lines, and a plan of two replicas in each region
 //! read_script("beat\nend\nbeat\n")          Err(Line { line: 3 })
 //! report_line(12, NoPage { source: 7 }, ..)  "12 no-page source=7\n"
-//! stir(7, 0)                                "farm 3,1 2,1 0\nend\n"
 //! ```
 #![tactic(auto)]
 
 mod count_answers;
 mod laws;
-mod make_script;
 mod plan;
 mod read_forms;
 mod report_text;
@@ -35,7 +33,6 @@ mod words;
 
 pub use count_answers::{Summary, count_answer, summary_line};
 pub use laws::scripts_are_one;
-pub use make_script::stir;
 pub use plan::SLOTS;
 pub use report_text::{end_line, page_bytes, report_head, report_line};
 pub use script_line::ScriptLine;

@@ -1,7 +1,7 @@
 use Rattle.std.proofs.Common.{◌≡◌, ◌+◌, ◌-◌, ◌++◌}
 use Rattle.wiki_model.specs.Generator.{stirred, stirred_from}
-use Rattle.drill_script.specs.Stir.{IsWithin, stirred_of}
-use Rattle.drill_script.proofs.make_script.stir.Given as goal
+use Rattle.script_generator.specs.Stir.{IsWithin, stirred_of}
+use Rattle.script_generator.proofs.make_script.stir.Given as goal
 
 abbrev pub invariant-loop-i : goal.invariant-loop-i
 invariant-loop-i l = record {

@@ -2,7 +2,7 @@
 ghost use Rattle.std.specs.Prelude.{◌≡◌, ◌<◌, ◌≤◌, ◌+◌, ◌-◌, ◌*◌, ◌/◌, ◌%◌, ◌^◌, ◌++◌, ◌∷◌, [], IfOk, OnOk, codes, decimal, length, slice_index};
 ghost use Rattle.std.specs.String.{string_bytes};
 ghost use Rattle.wiki_model.specs.Generator.{next_seed, stirred, step_lines, after_step, before_stirring};
-ghost use Rattle.drill_script.specs.Stir.{IsWithin, IsBelow, draws_by, stirred_of, at_text, edit_text, apply_text, view_text, carry_text, position_text, letter, carried, position, step_text, step_bytes, last_seed, after_by};
+ghost use Rattle.script_generator.specs.Stir.{IsWithin, IsBelow, draws_by, stirred_of, at_text, edit_text, apply_text, view_text, carry_text, position_text, letter, carried, position, step_text, step_bytes, last_seed, after_by};
 
 use farm_base::Memory;
 use std::alloc::Global;

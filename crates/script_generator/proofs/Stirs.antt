@@ -6,9 +6,9 @@ use Rattle.std.proofs.lemmas.List.Elements.{All-cons, All-nil, All-head, All-tai
 use Rattle.wiki_model.specs.Bytes.{Bytes}
 use Rattle.wiki_model.specs.Script.{words}
 use Rattle.wiki_model.specs.Generator.{Stirred, next_seed, seed_after, home_reading, west_reading, kind, client, title, word, replica, revision, title_word, edit_words, apply_words, view_words, carry_words, last_position, script_line, step_lines, with_edit, after_step, stirred_from}
-use Rattle.drill_script.specs.declared.make_script.Draws.{Draws}
-use Rattle.drill_script.specs.declared.make_script.Stirring.{Stirring}
-use Rattle.drill_script.specs.Stir.{IsWithin, IsBelow, draws_by, stirred_of, at_text, edit_text, apply_text, view_text, carry_text, position_text, carried, position, step_text, step_bytes, after_by}
+use Rattle.script_generator.specs.declared.make_script.Draws.{Draws}
+use Rattle.script_generator.specs.declared.make_script.Stirring.{Stirring}
+use Rattle.script_generator.specs.Stir.{IsWithin, IsBelow, draws_by, stirred_of, at_text, edit_text, apply_text, view_text, carry_text, position_text, carried, position, step_text, step_bytes, after_by}
 
 -- words with spaces between them, put together from the right, and a line feed
 abbrev printed : List Bytes → Bytes

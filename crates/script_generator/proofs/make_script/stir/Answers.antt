@@ -1,9 +1,9 @@
 use Rattle.std.proofs.Common.{◌≡◌, ◌<◌, ◌+◌, ◌++◌, ℕ, sym, subst, rules, string_bytes}
 use Rattle.std.proofs.lemmas.Bool.Decides.{nat_tests}
 use Rattle.wiki_model.specs.Generator.{stirred}
-use Rattle.drill_script.specs.Stir.{IsWithin, stirred_of}
-use Rattle.drill_script.proofs.Stirs.{no_ok, turn}
-use Rattle.drill_script.proofs.make_script.stir.Goals as goal
+use Rattle.script_generator.specs.Stir.{IsWithin, stirred_of}
+use Rattle.script_generator.proofs.Stirs.{no_ok, turn}
+use Rattle.script_generator.proofs.make_script.stir.Goals as goal
 
 pub returns-in_err-extend_from_slice-2 : goal.returns-in_err-extend_from_slice-2
 returns-in_err-extend_from_slice-2 c = no_ok _ c.from_residual-in_err-extend_from_slice-2.result c.from_residual-in_err-extend_from_slice-2.ensures.0

@@ -3,8 +3,8 @@
 use Rattle.std.specs.Prelude.{ℕ, ◌≤◌, ◌<◌, ◌+◌, ◌-◌, ◌*◌, ◌==◌, ◌&&◌, if◌then◌else◌, nat_lt, slice_index, slice_set, ◌/◌, ◌%◌, ◌^◌, All, [], ◌∷◌, ◌++◌, codes, decimal}
 use Rattle.wiki_model.specs.Bytes.{Bytes}
 use Rattle.wiki_model.specs.Generator.{Stirred, seed_after, next_seed}
-use Rattle.drill_script.specs.declared.make_script.Stirring.{Stirring}
-use Rattle.drill_script.specs.declared.make_script.Draws.{Draws}
+use Rattle.script_generator.specs.declared.make_script.Stirring.{Stirring}
+use Rattle.script_generator.specs.declared.make_script.Draws.{Draws}
 
 abbrev pub stirred_of : Stirring → Stirred
 stirred_of s = record { seed = s.seed; home = s.home; revisions = s.revisions; wrote = s.wrote; messages = s.messages }

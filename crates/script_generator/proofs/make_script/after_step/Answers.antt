@@ -1,6 +1,6 @@
-use Rattle.drill_script.specs.Stir.{stirred_of}
-use Rattle.drill_script.proofs.Stirs.{after_is, within_on}
-use Rattle.drill_script.proofs.make_script.after_step.Goals as goal
+use Rattle.script_generator.specs.Stir.{stirred_of}
+use Rattle.script_generator.proofs.Stirs.{after_is, within_on}
+use Rattle.script_generator.proofs.make_script.after_step.Goals as goal
 
 pub returns-clause-value : goal.returns-clause-value
 returns-clause-value c = after_is c.args.state c.args.draws.now (stirred_of c.after_by.result) c.requires.drawn c.after_by.ensures
