@@ -8,9 +8,9 @@ ghost use Rattle.farm_base.specs.Exposed.{Adds, AddsPrefix, Stays};
 ghost use Rattle.wiki_cli.specs.declared.status.Status.TheVariants.{Ok as Done, Usage, Script, ReadFault, WriteFault, Memory as OutOfMemory};
 
 use crate::Status;
-use first_script::{SCRIPT_MAX, ScriptFault, ScriptLine, read_script, report, run_script};
 use farm_base::{Memory, Sink, write_all};
 use first_farm::Farm;
+use first_script::{SCRIPT_MAX, ScriptFault, ScriptLine, read_script, report, run_script};
 use std::alloc::{AllocError, Global};
 
 /// Writes the line of a refusal, as far as the sink takes it.

@@ -10,8 +10,8 @@ ghost use Rattle.wiki_cli.specs.declared.status.Status.TheVariants.{Ok as Done, 
 use crate::Status;
 use crate::command::{USAGE, is_command};
 use crate::drill::{drill, refuse};
-use first_script::SCRIPT_MAX;
 use farm_base::{InputFault, Sink, Source, read_all};
+use first_script::SCRIPT_MAX;
 use std::alloc::Global;
 
 /// Where a script comes from, and where its report goes.
