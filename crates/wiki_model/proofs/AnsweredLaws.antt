@@ -22,32 +22,32 @@ use Rattle.wiki_model.specs.Answered.{last_reply, LastAnswers, IsViewAnswer, IsE
 -- The last of the turns
 
 -- a reply ends with an answer of this kind
-abbrev Ends : (Answer → Type 0) → Reply → Type 0
+abbrev pub Ends : (Answer → Type 0) → Reply → Type 0
 Ends Is reply = (answer : Answer) × (reply ≡ One (Some answer)) × (is_miss answer ≡ false) × Is answer
 
 -- or lets the request go on, and then this holds
-abbrev EndsOr : (Answer → Type 0) → Reply → Type 0 → Type 0
+abbrev pub EndsOr : (Answer → Type 0) → Reply → Type 0 → Type 0
 EndsOr Is reply Next = Ends Is reply ⊎ ((ends reply ≡ false) × Next)
 
-over : (b : Bool) (more : List Turn) (M : Type 0) → b ≡ true → GoesOn b more M → more ≡ []
+pub over : (b : Bool) (more : List Turn) (M : Type 0) → b ≡ true → GoesOn b more M → more ≡ []
 over true more M e goes = goes
 over false more M e goes = let no : ⊥ = cc in absurd no
 
-not_over : (b : Bool) (more : List Turn) (M : Type 0) → b ≡ false → GoesOn b more M → M
+pub not_over : (b : Bool) (more : List Turn) (M : Type 0) → b ≡ false → GoesOn b more M → M
 not_over true more M e goes = let no : ⊥ = cc in absurd no
 not_over false more M e goes = goes
 
-ends-with : (Is : Answer → Type 0) (reply : Reply) → Ends Is reply → ends reply ≡ true
+pub ends-with : (Is : Answer → Type 0) (reply : Reply) → Ends Is reply → ends reply ≡ true
 ends-with Is reply (answer, is, not_miss, p) = ap ends is ∙ ap not not_miss
 
-last-ended : (Is : Answer → Type 0) (turn : Turn) (more : List Turn) → more ≡ [] → Ends Is turn.reply → LastAnswers Is (turn ∷ more)
+pub last-ended : (Is : Answer → Type 0) (turn : Turn) (more : List Turn) → more ≡ [] → Ends Is turn.reply → LastAnswers Is (turn ∷ more)
 last-ended Is turn more none (answer, is, not_miss, p) = (answer, subst (λ (l : List Turn). last_reply (turn ∷ l) ≡ Some (One (Some answer))) (sym none) (ap (λ (r : Reply). Some r) is), p)
 
-last-later : (Is : Answer → Type 0) (turn : Turn) (more : List Turn) → LastAnswers Is more → LastAnswers Is (turn ∷ more)
+pub last-later : (Is : Answer → Type 0) (turn : Turn) (more : List Turn) → LastAnswers Is more → LastAnswers Is (turn ∷ more)
 last-later Is turn [] (answer, is, p) = let no : ⊥ = cc in absurd no
 last-later Is turn (t ∷ more) last = last
 
-chained : (Is : Answer → Type 0) (at : Readings) (turn : Turn) (more : List Turn) (steps : List Step) (Next : Type 0) → EndsOr Is turn.reply Next → GoesOn (ends turn.reply) more (Makes at steps more)
+pub chained : (Is : Answer → Type 0) (at : Readings) (turn : Turn) (more : List Turn) (steps : List Step) (Next : Type 0) → EndsOr Is turn.reply Next → GoesOn (ends turn.reply) more (Makes at steps more)
     → (Next → Makes at steps more → LastAnswers Is more) → LastAnswers Is (turn ∷ more)
 chained Is at turn more steps Next (inl end) goes later = last-ended Is turn more (over (ends turn.reply) more (Makes at steps more) (ends-with Is turn.reply end) goes) end
 chained Is at turn more steps Next (inr (on, next)) goes later = last-later Is turn more (later next (not_over (ends turn.reply) more (Makes at steps more) on goes))
@@ -55,7 +55,7 @@ chained Is at turn more steps Next (inr (on, next)) goes later = last-later Is t
 found : (m : Requests) (r : Request) → get (insert m 0 r) 0 ≡ Some r
 found m r = get-insert nat_cmp_total m 0 r 0
 
-asks : (v u : World) (r : Request) → u ≡ with_request 0 r v → request_at u 0 ≡ Some r
+pub asks : (v u : World) (r : Request) → u ≡ with_request 0 r v → request_at u 0 ≡ Some r
 asks v u r is = ap (λ (w : World). request_at w 0) is ∙ found v.requests r
 
 -- Rows
@@ -111,7 +111,7 @@ store-allowed view floor snapshot v u (One a) at takes = by a (subst (λ (o : Op
 -- Views
 
 -- the step of a turn that was made
-taken : (v u : World) (turn : Turn) (step : Step) → turn.step ≡ step → Leads v turn u → Takes step (at_readings turn.at v) turn.reply (with_faults v.faults u)
+pub taken : (v u : World) (turn : Turn) (step : Step) → turn.step ≡ step → Leads v turn u → Takes step (at_readings turn.at v) turn.reply (with_faults v.faults u)
 taken v u turn step is leads = subst (λ (s : Step). Takes s (at_readings turn.at v) turn.reply (with_faults v.faults u)) is leads.takes
 
 stored-answers : (at : Readings) (view : OpenView) (floor : Floor) (snapshot : Snapshot) (turns : List Turn) (v w : World) → request_at v 0 ≡ Some (ViewSnapped view floor snapshot) → Makes at (Step.Store 0 ∷ []) turns → GoesBy v turns w
@@ -171,7 +171,7 @@ edit-earlier a b c NoMemory le p = tt
 edit-earlier a b c _ le p = absurd p
 
 -- a reply that goes on is no fault
-counts-on : (a b : ℕ) (reply : Reply) → ends reply ≡ false → CountsFaults a b reply → a ≤ b
+pub counts-on : (a b : ℕ) (reply : Reply) → ends reply ≡ false → CountsFaults a b reply → a ≤ b
 counts-on a b (One (Some StoreFault)) e counts = let no : ⊥ = cc in absurd no
 counts-on a b (One (Some _)) e counts = counts
 counts-on a b (One None) e counts = counts
@@ -207,7 +207,7 @@ decided-answer a b decided v w (Unknown message) kinds fault is = subst (λ (o :
 decided-answer a b decided v w (Gone message) kinds fault is = subst (λ (o : Option Answer). IfSome o (IsEditAnswer a b)) is.0 kinds
 
 -- a keeper's fault is answered only where its count rose
-abbrev OnFault : (a b : ℕ) → Reply → Type 0
+abbrev pub OnFault : (a b : ℕ) → Reply → Type 0
 OnFault a b reply = (answer : Answer) → reply ≡ One (Some answer) → answer ≡ StoreFault → Rose a b
 
 begin-row : (a b : ℕ) (edit : Edit) (v u : World) (reply : Reply) → OnFault a b reply → request_at v 0 ≡ Some (EditArrived edit) → Takes (Step.Begin 0) v reply u
@@ -250,7 +250,7 @@ edit-chained at turn more steps Next v u w (inl end) goes counts others later =
 edit-chained at turn more steps Next v u w (inr (on, next)) goes counts others later =
     edit-later turn more v u w on counts (later next (not_over (ends turn.reply) more (Makes at steps more) on goes))
 
-on-fault : (v u : World) (turn : Turn) → Leads v turn u → OnFault v.faults u.faults turn.reply
+pub on-fault : (v u : World) (turn : Turn) → Leads v turn u → OnFault v.faults u.faults turn.reply
 on-fault v u turn leads answer is fault = rose v.faults u.faults turn.reply answer leads.faults is fault
 
 committed-answers : (at : Readings) (edit : Edit) (purge : ℕ) (turns : List Turn) (v w : World) → request_at v 0 ≡ Some (EditBegun edit purge) → Makes at (Step.CommitEdit 0 ∷ []) turns → GoesBy v turns w → LastAnswers (IsEditAnswer v.faults w.faults) turns

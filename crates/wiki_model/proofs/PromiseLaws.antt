@@ -57,7 +57,7 @@ from-cache v w r title floor p is = record { prefix = is.prefix; reaches = is.re
 from-replica : (v : World) (r : Region) (title : Title) (floor : Floor) (s : Snapshot) (p : PageAnswer) → IsSoundFromReplica v title floor s p → IsPromised v r title floor p
 from-replica v r title floor s p is = record { prefix = is.prefix; reaches = is.reaches; not_stale = λ hit whole. let no : via.Replica is.origin.0 ≡ via.Hit = sym is.origin.2 ∙ hit in let none : ⊥ = cc in absurd none }
 
-was-snapped : (o : Option Request) (p : OpenView × Floor × Snapshot) → snapped_view o ≡ Some p → o ≡ Some (ViewSnapped p.0 p.1 p.2)
+pub was-snapped : (o : Option Request) (p : OpenView × Floor × Snapshot) → snapped_view o ≡ Some p → o ≡ Some (ViewSnapped p.0 p.1 p.2)
 was-snapped None p e = let no : ⊥ = cc in absurd no
 was-snapped (Some (ViewSnapped view floor s)) p e = let same : (let x : OpenView × Floor × Snapshot = (view, floor, s) in x) ≡ p = cc in ap (λ (q : OpenView × Floor × Snapshot). Some (ViewSnapped q.0 q.1 q.2)) same
 was-snapped (Some (EditArrived edit)) p e = let no : ⊥ = cc in absurd no

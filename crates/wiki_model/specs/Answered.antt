@@ -1,15 +1,16 @@
 -- What a whole request, made step by step at one reading, is answered: each ends with one answer, and of these kinds alone.
-use Rattle.std.specs.Prelude.{ℕ, ◌≡◌, ◌⊎◌, true, List, [], ◌∷◌, Option, Some, option_map}
+use Rattle.std.specs.Prelude.{ℕ, ◌≡◌, ◌⊎◌, ◌≤◌, true, List, [], ◌∷◌, ◌++◌, length, Option, Some, None, option_map}
 use Rattle.wiki_model.specs.declared.Region.{Region}
 use Rattle.wiki_model.specs.declared.Readings.{Readings}
 use Rattle.wiki_model.specs.Bytes.{last_of}
 use Rattle.wiki_model.specs.Titles.{Title}
-use Rattle.wiki_model.specs.History.{Edit}
-use Rattle.wiki_model.specs.World.{World, View, Job}
+use Rattle.wiki_model.specs.History.{Edit, Committed, page_text}
+use Rattle.wiki_model.specs.World.{World, View, OpenView, Job, moment, at_readings}
 use Rattle.wiki_model.specs.World.Asked.{AskedView, AskedEdit}
-use Rattle.wiki_model.specs.Answers.{Answer}
+use Rattle.wiki_model.specs.Sessions.{lag_of}
+use Rattle.wiki_model.specs.Answers.{Answer, edit_answer, saved, IsOfPrefix}
 use Rattle.wiki_model.specs.Answers.Answer.{Page, EditSaved, NoPage, Conflict, TokenUsed, Lagging, StoreFault, NoMemory}
-use Rattle.wiki_model.specs.Steps.{Step, Rose}
+use Rattle.wiki_model.specs.Steps.{Step, Rose, region_of, next_message, next_entry, next_commit}
 use Rattle.wiki_model.specs.Runs.{Turn, Reply}
 use Rattle.wiki_model.specs.Runs.Reply.{One, Many}
 use Rattle.wiki_model.specs.Sequences.{Makes, steps_of_asked}
@@ -46,6 +47,29 @@ EndsBatch (Lagging by needed reached) = Unit {0}
 EndsBatch NoMemory = Unit {0}
 EndsBatch _ = ⊥
 
+-- a view at world v: its page of a prefix, that this prefix has none, how far v is behind, or out of memory
+abbrev pub opened_in : World → View → OpenView
+opened_in v view = record { view = view; region = region_of view; arrived = moment (region_of view) v }
+
+abbrev pub GetsPage : World → View → Answer → Type 0
+GetsPage v view (Page p) = IsOfPrefix v view.title p
+GetsPage v view (NoPage source) =
+    (source ≤ length v.history) × (page_text v.history source view.title ≡ None)
+GetsPage v view (Lagging by needed reached) =
+    lag_of v (opened_in v view) ≡ Some (record { by = by; needed = needed; reached = reached })
+GetsPage v view NoMemory = Unit {0}
+GetsPage v view _ = ⊥
+
+-- an edit at world v that the history did not decide: saved as its next entry, out of memory, or a fault of the keeper;
+-- the history has the commit if the edit is saved, and is as before if not
+abbrev pub IsSaved : (v w : World) → Edit → Answer → Type 0
+IsSaved v w edit (EditSaved s) =
+    let commit = next_commit v edit (next_message v) in
+    (s ≡ saved (next_entry v) commit) × (w.history ≡ v.history ++ Committed commit ∷ [])
+IsSaved v w edit StoreFault = Rose v.faults w.faults × (w.history ≡ v.history)
+IsSaved v w edit NoMemory = w.history ≡ v.history
+IsSaved v w edit _ = ⊥
+
 -- The laws
 
 abbrev pub ViewsAreAnswered : Type 0
@@ -59,6 +83,21 @@ EditsAreAnswered =
     (at : Readings) (edit : Edit) (turns : List Turn) (v w : World)
     → Makes at (steps_of_asked (AskedEdit edit)) turns → GoesBy v turns w
     → LastAnswers (IsEditAnswer v.faults w.faults) turns
+
+-- a view that is not behind gets its page, or that there is none, or out of memory
+abbrev pub ViewsGetTheirPage : Type 0
+ViewsGetTheirPage =
+    (at : Readings) (view : View) (turns : List Turn) (v w : World)
+    → Makes at (steps_of_asked (AskedView view)) turns → GoesBy v turns w
+    → LastAnswers (GetsPage (at_readings at v) view) turns
+
+-- an edit that the history does not decide is saved, out of memory, or meets a fault of the keeper
+abbrev pub UndecidedEditsAreSaved : Type 0
+UndecidedEditsAreSaved =
+    (at : Readings) (edit : Edit) (turns : List Turn) (v w : World)
+    → Makes at (steps_of_asked (AskedEdit edit)) turns → GoesBy v turns w
+    → edit_answer v.history edit ≡ None
+    → LastAnswers (IsSaved (at_readings at v) w edit) turns
 
 -- a batch's round answers a list, or that it was out of memory
 abbrev pub BatchesAreAnswered : Type 0

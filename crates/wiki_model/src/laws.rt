@@ -1,8 +1,9 @@
 //! The laws of the definitions, each as the contract of a function that does nothing, so that its proof is asked for.
 //! They say nothing of the program until a contract cites the definitions that they speak of.
 
-ghost use Rattle.wiki_model.specs.Answered.{ViewsAreAnswered, EditsAreAnswered, BatchesAreAnswered, PagesAreServed, EditsAreServed};
+ghost use Rattle.wiki_model.specs.Answered.{ViewsAreAnswered, EditsAreAnswered, BatchesAreAnswered, PagesAreServed, EditsAreServed, ViewsGetTheirPage, UndecidedEditsAreSaved};
 ghost use Rattle.wiki_model.specs.Generator.{MakesScripts};
+ghost use Rattle.wiki_model.specs.Makers.{CachedSourcesWereStored};
 ghost use Rattle.wiki_model.specs.Laws.{MissingRoundPagesArePromised, LooksAreAllowed, MomentsKeepRows, KnownPositionsAreFound, RoundsChangeEvents, CommitsAppend, CommitsArePurgedPromptly, SharedRoundsStand, OpeningsHaveRows, EntriesKeepRows, HearingKeepsRows, SweepingKeepsRows, NeedsAreReached, PagesArePromised, MissingPagesArePromised, FloorsAreGiven, RoundPagesArePromised, RunsStayConsistent, RunsOnlyGrow, EntriesKeepHistories, RevisionsAreCounted, UndecidedEditsAreNext, PagesOfPrefixesStay, PurgesAreOfTheirTitle, EmptyCachesStand, GrowthKeepsCaches, PurgesKeepCaches, PutsKeepCaches, StoresKeepCaches, RoundsKeepCaches, OneWorkerRoundsStand, LooksGoOn, HitsAreNotStale, HitsAreSound, InterimAnswersAreSound, StoredPagesAreSound, MissingPagesAreSound, WholeValuesAreTrue, LaggedValuesAreTrue, NotesAreAllowed, NeedsReachOwnEdits, SnapshotsReachTheirNeed, ChoicesAreOne, MomentsKeepPositions, EntriesKeepPositions, HearingKeepsPositions, SharedHitsAreSound, SharedInterimAnswersAreSound, SharedNotesAreAllowed};
 
 /// Every page that a step of a run answers is as promised to the view that the step names: the page of its prefix, with what its session may not miss as it stood at its step `wait`, and no stale hit.
@@ -278,4 +279,21 @@ pub fn pages_are_served()
 /// So does an edit that is served.
 pub fn edits_are_served()
     ensures { EditsAreServed }
+{}
+
+/// A whole view that is not behind gets its page, or that there is none, or out of memory.
+/// One that is behind is told by how much.
+pub fn views_get_their_page()
+    ensures { ViewsGetTheirPage }
+{}
+
+/// A whole edit that the history does not decide is saved as the next entry.
+/// Or it is out of memory, or meets a counted fault of the keeper, and the history stays.
+pub fn undecided_edits_are_saved()
+    ensures { UndecidedEditsAreSaved }
+{}
+
+/// A page that a step look answers was made by an earlier turn of the run: a store, or a round of the same region.
+pub fn cached_sources_were_stored()
+    ensures { CachedSourcesWereStored }
 {}
