@@ -2,6 +2,7 @@ pub mod AsModel
 pub mod Causes
 pub mod Exposed
 pub mod FailingCalls
+pub mod Half
 pub mod MemSource
 pub mod MemSink
 pub mod Bytes
