@@ -7,3 +7,5 @@ pub mod MemSource
 pub mod MemSink
 pub mod Bytes
 pub mod InputFault
+pub mod Offered
+pub mod Series

@@ -17,6 +17,9 @@
 
 mod bounds;
 pub mod bytes;
+mod clock_and_lots;
+mod connection;
+mod door;
 mod failing_calls;
 mod lists;
 mod memory;
@@ -26,6 +29,9 @@ mod streams;
 mod times;
 
 pub use bounds::{BOUND_MAX, Bounds};
+pub use clock_and_lots::{Clock, Lots};
+pub use connection::Conn;
+pub use door::Door;
 pub use failing_calls::FailingCalls;
 pub use lists::{Listed, ListedText};
 pub use memory::Memory;
