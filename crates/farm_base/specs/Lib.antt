@@ -9,3 +9,4 @@ pub mod Bytes
 pub mod InputFault
 pub mod Offered
 pub mod Series
+pub mod MemConn
