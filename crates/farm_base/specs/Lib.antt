@@ -10,3 +10,5 @@ pub mod InputFault
 pub mod Offered
 pub mod Series
 pub mod MemConn
+pub mod MemDoor
+pub mod MemClock

@@ -1,5 +1,5 @@
 // A connection that moves a few bytes in each call, and a door that gives such connections and keeps those handed back.
-ghost use Rattle.std.specs.Prelude.{◌≡◌, ℕ, ◌<◌, ◌≤◌, min, length, Option, Some, IfOk, OnOk, OnErr, IsErr, Contains, ◌↔◌, []};
+ghost use Rattle.std.specs.Prelude.{◌≡◌, ℕ, ◌<◌, ◌≤◌, min, length, Option, Some, IfOk, OnOk, OnErr, IsErr, Contains, ◌↔◌, [], if◌then◌else◌, option_map};
 ghost use Rattle.std.specs.Io.{ReadsAtMost};
 ghost use Rattle.std.specs.Io.KnownBytes.{ReadConsumes};
 ghost use Rattle.std.specs.String.{string_bytes};
@@ -7,8 +7,10 @@ ghost use Rattle.farm_base.specs.Causes.{HasCause, counted};
 ghost use Rattle.farm_base.specs.Exposed.{WriteAdds};
 ghost use Rattle.farm_base.specs.FailingCalls.{none_made, one_more};
 ghost use Rattle.farm_base.specs.MemConn.{Talker, reading_half_of, writing_half_of, with_input, with_output, with_place};
+ghost use Rattle.farm_base.specs.MemDoor.{Doorway, from_place, unused_door};
+ghost use Rattle.farm_base.specs.Offered.{GivesNext, TakesBack, is_none_left, one_back};
 
-use crate::{Conn, ListedText, MemSink, MemSource, OutFault, Sink, Source};
+use crate::{Conn, Door, FailingCalls, ListedText, MemSink, MemSource, OutFault, Sink, Source};
 use std::alloc::Global;
 use std::marker::Model;
 
@@ -141,4 +143,125 @@ impl Conn for MemConn {
     }
 
     fn shows_halves(&self) {}
+}
+
+/// A door over connections, which it gives in their order, each with its place; it keeps those handed back. The calls
+/// of `next` in its list fail, counted from 1, and no others.
+#[derive(Drop)]
+pub struct MemDoor {
+    // Those that are left, and then those handed back. There is room for each that is out, so none is refused.
+    conns: Vec<MemConn>,
+    left: usize,
+    out: usize,
+    total: usize,
+    calls: FailingCalls,
+    faults: u64,
+    nones: u64,
+}
+
+impl Model for MemDoor {
+    ghost use Rattle.std.specs.Prelude.{◌-◌, ◌+◌, ◌≤◌, take, drop};
+    ghost use Rattle.std.specs.Vec.{vec_len, vec_capacity};
+    ghost use Rattle.farm_base.specs.MemDoor.{Doorway, numbered};
+
+    ghost Value = { Doorway };
+
+    ghost view = { λ d. record {
+      offered = record {
+        left = numbered (d.total - d.left) (take d.left d.conns.items);
+        out = d.out;
+        returned = drop d.left d.conns.items;
+      };
+      calls = d.calls;
+      faults = d.faults;
+      nones = d.nones;
+    } };
+
+    ghost invariant = { λ d. (d.left ≤ vec_len d.conns) × (d.left ≤ d.total) × (vec_len d.conns + d.out ≤ d.total) × (d.total ≤ vec_capacity d.conns) };
+}
+
+impl MemDoor {
+    /// A door over these connections; the calls of `next` of these numbers fail. It takes no memory.
+    pub fn new(conns: Vec<MemConn>, failing: Vec<u64>) -> Self
+        ensures { result ≡ unused_door conns.items (none_made failing.items) }
+    {
+        let total = conns.len();
+        MemDoor {
+            conns,
+            left: total,
+            out: 0,
+            total,
+            calls: FailingCalls::new(failing),
+            faults: 0,
+            nones: 0,
+        }
+    }
+
+    /// The connection of this place, counted from 0, once it was handed back. Linear in those handed back.
+    pub fn returned(&self, index: usize) -> Option<&MemConn>
+        ensures { option_map (λ conn. conn.now) result ≡ from_place index self.now.offered.returned }
+    {
+        let (_, returned) = self.conns.as_slice().split_at(self.left);
+        from_place(returned, index)
+    }
+}
+
+impl Door for MemDoor {
+    type C = MemConn;
+
+    ghost offered = { λ d. Some d.offered };
+
+    ghost faults = { λ d. d.faults };
+
+    ghost nones = { λ d. d.nones };
+
+    fn next(&mut self) -> Result<Option<MemConn>, OutFault>
+        ensures conns { GivesNext (Some self.old.offered) (Some self.new.offered) result }
+        ensures nones { self.new.nones ≡ (if is_none_left result then counted self.old.nones else self.old.nones) }
+        ensures cause { HasCause self.old.faults self.new.faults result }
+        ensures fails { IsErr result ↔ Contains self.old.calls.numbers (counted self.old.calls.made) }
+        ensures still { OnOk result (self.new.faults ≡ self.old.faults) }
+        ensures counts { OnErr result (self.new.faults ≡ counted self.old.faults) }
+        ensures calls { self.new.calls ≡ one_more self.old.calls }
+    {
+        if self.calls.next_fails() {
+            self.faults = self.faults.saturating_add(1);
+            return Err(OutFault::Failed);
+        }
+        if self.left == 0 {
+            self.nones = self.nones.saturating_add(1);
+            return Ok(None);
+        }
+        let place = self.total - self.left;
+        let conn = self.conns.remove(0);
+        self.left -= 1;
+        self.out += 1;
+        Ok(Some(conn.at_place(place)))
+    }
+
+    /// Takes back a connection. One from elsewhere is dropped if all that were given are back.
+    fn done(&mut self, conn: MemConn)
+        ensures conns { TakesBack (Some self.old.offered) (Some self.new.offered) conn }
+        ensures nones { self.new.nones ≡ self.old.nones }
+        ensures faults { self.new.faults ≡ self.old.faults }
+        ensures calls { self.new.calls ≡ self.old.calls }
+    {
+        if 0 < self.out {
+            self.out -= 1;
+            // There is room for it, so it is not refused.
+            let _ = self.conns.push(conn);
+        }
+    }
+}
+
+// The connection that was given from this place.
+fn from_place(conns: &[MemConn], place: usize) -> Option<&MemConn>
+    ensures { option_map (λ conn. conn.now) result ≡ from_place place conns.now }
+{
+    for conn in conns {
+        if conn.place == place {
+            return Some(conn);
+        }
+    }
+    None
 }
