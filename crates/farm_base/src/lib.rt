@@ -17,18 +17,28 @@
 
 mod bounds;
 pub mod bytes;
+mod clock_and_lots;
+mod connection;
+mod door;
 mod failing_calls;
 mod lists;
 mod memory;
+mod memory_clock_and_lots;
+mod memory_connections;
 mod memory_streams;
 mod read_write;
 mod streams;
 mod times;
 
 pub use bounds::{BOUND_MAX, Bounds};
+pub use clock_and_lots::{Clock, Lots};
+pub use connection::Conn;
+pub use door::Door;
 pub use failing_calls::FailingCalls;
 pub use lists::{Listed, ListedText};
 pub use memory::Memory;
+pub use memory_clock_and_lots::{MemClock, MemLots};
+pub use memory_connections::{MemConn, MemDoor};
 pub use memory_streams::{MemSink, MemSource, SureSink, SureSource};
 pub use read_write::{InputFault, read_all, write_all};
 pub use streams::{OutFault, Sink, Source};
