@@ -1,2 +1,4 @@
-pub mod Prefixes
-pub mod Complete
+pub mod CommandWords
+pub mod Texts
+pub mod Closing
+pub mod RunEnds
