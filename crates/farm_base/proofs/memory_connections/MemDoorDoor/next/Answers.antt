@@ -1,8 +1,4 @@
-use Rattle.std.proofs.Common.{◌≡◌, ◌+◌, ◌-◌, ◌<◌, ◌≤◌, length, take, drop, Some, subst, sym, arith, rules, slice_index_or}
-use Rattle.std.specs.List.{remove}
-use Rattle.farm_base.specs.MemDoor.{numbered}
-use Rattle.farm_base.specs.MemConn.{with_place}
-use Rattle.farm_base.specs.Offered.{GivesFirst}
+use Rattle.std.proofs.Common.{◌<◌, ◌≤◌, length, arith, rules}
 use Rattle.farm_base.proofs.Doors.{gives_first}
 use Rattle.farm_base.proofs.memory_connections.MemDoorDoor.next.Goals as goal
 
