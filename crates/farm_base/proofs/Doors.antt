@@ -4,7 +4,7 @@ use Rattle.std.proofs.Common.{◌≡◌, ℕ, suc, zero, ◌+◌, ◌-◌, ◌<�
 use Rattle.std.specs.List.{remove}
 use Rattle.farm_base.specs.MemConn.{Talker, with_place}
 use Rattle.farm_base.specs.MemDoor.{numbered}
-use Rattle.farm_base.specs.Offered.{Offered, GivesFirst}
+use Rattle.farm_base.specs.Offered.{GivesFirst}
 
 pub gives_first : (conns rest : List Talker) (conn : Talker) (left total out : ℕ)
     → conn ≡ slice_index_or conns 0 conn → rest ≡ remove conns 0 → 0 < left → left ≤ total → left ≤ length conns

@@ -1,5 +1,5 @@
 -- A connection in memory, as contracts see it.
-use Rattle.std.specs.Prelude.{ℕ, List, Option, Some}
+use Rattle.std.specs.Prelude.{ℕ, List, Some}
 use Rattle.farm_base.specs.Half.{Half}
 use Rattle.farm_base.specs.MemSource.{Reader}
 use Rattle.farm_base.specs.MemSink.{Writer}

@@ -30,10 +30,14 @@ pub record GivesNone {A : Type 0} (old new : Option (Offered A)) : Type 0 where
   pub none_left : IfSome old (λ offered. offered.left ≡ [])
   pub same : new ≡ old
 
--- the first is given, or none if none is left, and a call that fails changes nothing
+-- the first is given, or none if none is left
+abbrev pub GivesOne : {A : Type 0} → (old new : Option (Offered A)) → Option A → Type 0
+GivesOne old new (Some conn) = GivesFirst old new conn
+GivesOne old new None = GivesNone old new
+
+-- a call that fails changes nothing
 abbrev pub GivesNext : {A E : Type 0} → (old new : Option (Offered A)) → Result (Option A) E → Type 0
-GivesNext old new (Ok (Some conn)) = GivesFirst old new conn
-GivesNext old new (Ok None) = GivesNone old new
+GivesNext old new (Ok found) = GivesOne old new found
 GivesNext old new (Err _) = new ≡ old
 
 -- a connection that was given is handed back

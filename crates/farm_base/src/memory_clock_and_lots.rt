@@ -1,7 +1,6 @@
 // A clock and lots that give what they were made with, and then the last one for good.
 ghost use Rattle.std.specs.Prelude.{◌≡◌, ◌≤◌, Some, map, min};
 ghost use Rattle.wiki_model.specs.Limits.{greatest_moment};
-ghost use Rattle.farm_base.specs.Series.{Gives, Series};
 ghost use Rattle.farm_base.specs.MemClock.{cut};
 
 use crate::{Clock, Lots, MOMENT_MAX, Moment, Readings};

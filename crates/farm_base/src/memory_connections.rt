@@ -1,5 +1,5 @@
 // A connection that moves a few bytes in each call, and a door that gives such connections and keeps those handed back.
-ghost use Rattle.std.specs.Prelude.{◌≡◌, ℕ, ◌<◌, ◌≤◌, min, length, Option, Some, IfOk, OnOk, OnErr, IsErr, Contains, ◌↔◌, [], if◌then◌else◌, option_map};
+ghost use Rattle.std.specs.Prelude.{◌≡◌, ◌<◌, ◌≤◌, min, length, Some, IfOk, OnOk, OnErr, IsErr, Contains, ◌↔◌, [], if◌then◌else◌, option_map};
 ghost use Rattle.std.specs.Io.{ReadsAtMost};
 ghost use Rattle.std.specs.Io.KnownBytes.{ReadConsumes};
 ghost use Rattle.std.specs.String.{string_bytes};
@@ -8,7 +8,7 @@ ghost use Rattle.farm_base.specs.Exposed.{WriteAdds};
 ghost use Rattle.farm_base.specs.FailingCalls.{none_made, one_more};
 ghost use Rattle.farm_base.specs.MemConn.{Talker, reading_half_of, writing_half_of, with_input, with_output, with_place};
 ghost use Rattle.farm_base.specs.MemDoor.{Doorway, from_place, unused_door};
-ghost use Rattle.farm_base.specs.Offered.{GivesNext, TakesBack, is_none_left, one_back};
+ghost use Rattle.farm_base.specs.Offered.{GivesNext, TakesBack, is_none_left};
 
 use crate::{Conn, Door, FailingCalls, ListedText, MemSink, MemSource, OutFault, Sink, Source};
 use std::alloc::Global;
@@ -160,9 +160,9 @@ pub struct MemDoor {
 }
 
 impl Model for MemDoor {
-    ghost use Rattle.std.specs.Prelude.{◌-◌, ◌+◌, ◌≤◌, take, drop};
+    ghost use Rattle.std.specs.Prelude.{◌-◌, take, drop};
     ghost use Rattle.std.specs.Vec.{vec_len, vec_capacity};
-    ghost use Rattle.farm_base.specs.MemDoor.{Doorway, numbered};
+    ghost use Rattle.farm_base.specs.MemDoor.{Doorway, HasRoom, numbered};
 
     ghost Value = { Doorway };
 
@@ -177,7 +177,7 @@ impl Model for MemDoor {
       nones = d.nones;
     } };
 
-    ghost invariant = { λ d. (d.left ≤ vec_len d.conns) × (d.left ≤ d.total) × (vec_len d.conns + d.out ≤ d.total) × (d.total ≤ vec_capacity d.conns) };
+    ghost invariant = { λ d. HasRoom d.left (vec_len d.conns) d.out d.total (vec_capacity d.conns) };
 }
 
 impl MemDoor {

@@ -1,8 +1,4 @@
-use Rattle.std.proofs.Common.{◌≡◌, ◌+◌, ◌-◌, ◌<◌, ◌≤◌, length, take, drop, Some, subst, sym, arith, rules, slice_index_or}
-use Rattle.std.specs.List.{remove}
-use Rattle.farm_base.specs.MemDoor.{numbered}
-use Rattle.farm_base.specs.MemConn.{with_place}
-use Rattle.farm_base.specs.Offered.{GivesFirst}
+use Rattle.std.proofs.Common.{◌<◌, ◌≤◌, length, arith, rules}
 use Rattle.farm_base.proofs.Doors.{gives_first}
 use Rattle.farm_base.proofs.memory_connections.MemDoorDoor.next.Goals as goal
 
@@ -11,5 +7,5 @@ returns-clause-conns c =
     let d = c.self.inside in
     let some : 0 < d.left = omega (arith, c.if-self-eq0.false) in
     let within : d.left ≤ length d.conns.items = search rules in
-    let given = gives_first d.conns.items c.remove-conn.new.self.items c.remove-conn.result d.left d.total d.out c.remove-conn.ensures.value c.remove-conn.ensures.items some c.self.invariant.1 within in
+    let given = gives_first d.conns.items c.remove-conn.new.self.items c.remove-conn.result d.left d.total d.out c.remove-conn.ensures.value c.remove-conn.ensures.items some c.self.invariant.fewer within in
     rw (← c.self.view_is, c.at_place.ensures) given
