@@ -24,7 +24,8 @@ with_commit content edit at purge = option_map (λ h. h ++ Committed (commit_for
 
 -- the note tells the commit that follows the history
 abbrev pub IsNoteOf : (content : Option (List Entry)) → Edit → (at purge : ℕ) → SavedNote → Type 0
-IsNoteOf content edit at purge note = IfSome content (λ h. saved_of note ≡ saved (length h + 1) (commit_for h edit at purge))
+IsNoteOf content edit at purge note =
+    IfSome content (λ h. saved_of note ≡ saved (length h + 1) (commit_for h edit at purge))
 
 abbrev pub Appends : (content now : Option (List Entry)) → Edit → (at purge : ℕ) → Result SavedNote KeepFault → Type 0
 Appends content now edit at purge result = OnOk result (now ≡ with_commit content edit at purge)
@@ -42,11 +43,13 @@ abbrev pub with_due_purge : (due at : ℕ) → Title → LedgerState → LedgerS
 with_due_purge due at title ledger = if nat_lt due at then with_purge title at ledger else ledger
 
 abbrev pub second_purge : (due at : ℕ) → LedgerState → Option Issued
-second_purge due at ledger = if nat_lt due at then Some (record { purge = next_number ledger; message = next_number ledger }) else None
+second_purge due at ledger =
+    if nat_lt due at then Some (record { purge = next_number ledger; message = next_number ledger }) else None
 
 -- the ledger with the second purge, if one is due, and the message of the position
 abbrev pub announced : (due at : ℕ) → Title → SavedNote → LedgerState → LedgerState
-announced due at title note ledger = with_position note.client note.index note.entry at (with_due_purge due at title ledger)
+announced due at title note ledger =
+    with_position note.client note.index note.entry at (with_due_purge due at title ledger)
 
 -- the client's row once it was told of the commit
 abbrev pub noted : SavedNote → (at : ℕ) → PositionRow → PositionRow
@@ -73,7 +76,8 @@ CommitsWithOutcome old new begun at (Err Memory) = GivesUp old new
 CommitsWithOutcome old new begun at (Err why) = IsRefusedBy old.content (edit_of begun.ask) why × GivesUp old new
 
 abbrev pub Commits : (old new : EditState) → BegunEdit → (at : ℕ) → Result SavedNote EditRefusal → Type 0
-Commits old new begun at (Ok note) = (WasSaved old.content (edit_of begun.ask) note × GivesUp old new) ⊎ Saves old new begun at note
+Commits old new begun at (Ok note) =
+    (WasSaved old.content (edit_of begun.ask) note × GivesUp old new) ⊎ Saves old new begun at note
 Commits old new begun at (Err Store) = GivesUp old new
 Commits old new begun at (Err Memory) = GivesUp old new
 Commits old new begun at (Err why) = IsRefusedBy old.content (edit_of begun.ask) why × GivesUp old new

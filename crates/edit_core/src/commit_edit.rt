@@ -6,7 +6,8 @@ ghost use Rattle.revision_keeper.specs.Causes.{HasFault};
 ghost use Rattle.chronology_store.specs.ChronologyStore.{is_reserved, Changes};
 ghost use Rattle.edit_core.specs.AsModel.{edit_of};
 ghost use Rattle.edit_core.specs.EditState.{HasStoreFault, IsUndecided, state_of};
-ghost use Rattle.edit_core.specs.CommitEdit.{Commits, CommitsWithOutcome, Appends, IsNoteOf, announced, second_purge, noted};
+ghost use Rattle.edit_core.specs.CommitEdit.{Commits, CommitsWithOutcome, Appends, IsNoteOf, announced, second_purge};
+ghost use Rattle.edit_core.specs.CommitEdit.{noted};
 
 use crate::begin_edit::refusal;
 use crate::begun_edit::{BegunEdit, MESSAGES_LEFT};
@@ -43,9 +44,9 @@ pub fn commit<K: Keeper>(
     }
 }
 
-/// Commits an edit at this home moment: if the history does not decide it by now, its entry is appended, and the client's
-/// position is noted at home and told to west. A commit after its due moment is purged again; the caller has home receive
-/// that purge.
+/// Commits an edit at this home moment: if the history does not decide it by now, its entry is appended, and the
+/// client's position is noted at home and told to west. A commit after its due moment is purged again; the caller has
+/// home receive that purge.
 ///
 /// After any other answer nothing else has changed: the room that was reserved is given back, the client's row stays
 /// reserved, and the purge stays issued.

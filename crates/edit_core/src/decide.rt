@@ -4,7 +4,8 @@ ghost use Rattle.commit_feed.specs.AsModel.{entry_of};
 ghost use Rattle.revision_keeper.specs.Causes.{HasFault};
 ghost use Rattle.edit_core.specs.AsModel.{edit_of, decided_of};
 ghost use Rattle.edit_core.specs.Decided.{repeated_at, revision_in, IsFree};
-ghost use Rattle.edit_core.specs.Questions.{IsDecided, IsRepeated, IsDecidedByBase, IsCurrentRevision, IsLastOn, IsRevisionAt};
+ghost use Rattle.edit_core.specs.Questions.{IsDecided, IsRepeated, IsDecidedByBase, IsCurrentRevision, IsLastOn};
+ghost use Rattle.edit_core.specs.Questions.{IsRevisionAt};
 
 use crate::edit_ask::{EditAsk, SavedNote};
 use commit_feed::Entry;

@@ -9,8 +9,8 @@
 //! besides the keeper is reserved by `begin`: room for three messages (the purge, a second purge if the commit comes
 //! late, the position) and the row of the client's position. What turns out not to be needed is given back.
 //!
-//! What the caller does: home receives each purge at once (`Issued` names it), positions and purges travel to west by the
-//! ledger's messages, and a begun edit that is given up goes through `abandon`.
+//! What the caller does: home receives each purge at once (`Issued` names it), positions and purges travel to west by
+//! the ledger's messages, and a begun edit that is given up goes through `abandon`.
 //!
 //! ```text
 //! begin(keeper, ledger, positions, ask, at 20,000, delay 3,000)  Started: purge 3 is issued, due 23,000

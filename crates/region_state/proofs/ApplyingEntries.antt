@@ -11,7 +11,7 @@ use Rattle.replica_apply.specs.declared.replica.Applied.{Applied}
 use Rattle.replica_apply.specs.declared.replica.Applied.TheVariants.{Applied as Done, Repeat, Gap}
 use Rattle.replica_apply.specs.Replica.{ReplicaState, IsPrefixOf}
 use Rattle.replica_apply.specs.Applied.{Applies, GoesOn}
-use Rattle.region_state.specs.ApplyEntries.{says_applied, EndsOne, AppliesOne, HasApplied, AppliesTo}
+use Rattle.region_state.specs.ApplyEntries.{says_applied, AppliesOne, HasApplied, AppliesTo}
 
 -- no entry is left
 pub one_none : (h : List Entry) (old : ReplicaState) (n : ℕ) → n ≡ old.applied + 1 → None ≡ entry_at h n → AppliesOne h old old (Ok false)

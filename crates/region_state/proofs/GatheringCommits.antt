@@ -1,17 +1,16 @@
 -- Stamps never fall, so before an entry that is not young none is young. And the young commits of one entry more are those
 -- before it, with that entry if it is a young commit.
 use Rattle.std.proofs.Common.{◌≡◌, ℕ, zero, suc, ◌+◌, ◌<◌, ◌≤◌, Bool, true, false, cond, List, [], ◌∷◌, ◌++◌, length, map, take, Option, Some, None, refl, sym, ap, subst, ◌∙◌, arith, nat_lt, append-nil}
-use Rattle.std.specs.Prelude.{filter, slice_get, option_map, unwrap_or, All}
+use Rattle.std.specs.Prelude.{filter, option_map, unwrap_or}
 use Rattle.std.proofs.lemmas.Bool.Decides.{nat_tests}
 use Rattle.std.proofs.lemmas.List.{map-append}
 use Rattle.std.proofs.lemmas.List.Elements.{filter-append}
-use Rattle.wiki_model.specs.Limits.{position_life}
-use Rattle.wiki_model.specs.History.{Entry, Beat, Committed, Commit, Numbered, IsHistory, commits, entry_at, stamp_at, stamp_of}
+use Rattle.wiki_model.specs.History.{Entry, Beat, Committed, Numbered, IsHistory, commits, entry_at, stamp_at, stamp_of}
 use Rattle.wiki_model.specs.Positions.{young_commits}
 use Rattle.wiki_model.proofs.HistoryLaws.{commits_from-push_beat, commits_from-push_commit}
 use Rattle.wiki_model.proofs.HistoryGrowth.{take-snoc}
 use Rattle.chronology_store.specs.declared.ClientCommit.{ClientCommit}
-use Rattle.region_state.specs.YoungCommits.{AreSmall, counts, is_young_at, commit_of, commits_of, told_at, told_of}
+use Rattle.region_state.specs.YoungCommits.{counts, is_young_at, commit_of, commits_of, told_at, told_of}
 
 -- the young commits of one entry more
 young_next : (now : ℕ) (h : List Entry) (e : Entry) → commits_of (young_commits now (h ++ e ∷ [])) ≡ commits_of (young_commits now h) ++ told_of now (1 + length h) e

@@ -1,5 +1,5 @@
 -- A snapshot's own page is what is rendered from its lists; and a store into the cache alone is one into the region.
-use Rattle.std.proofs.Common.{◌≡◌, ℕ, List, Option, Result, Ok, Err, IfOk, refl, ap, ◌∙◌}
+use Rattle.std.proofs.Common.{◌≡◌, ℕ, List, Option, Result, Ok, Err, IfOk, ap, ◌∙◌}
 use Rattle.wiki_model.specs.Bytes.{Bytes}
 use Rattle.wiki_model.specs.Html.{page_html}
 use Rattle.wiki_model.specs.Cache.{CacheMap}

@@ -8,7 +8,8 @@ use Rattle.replica_apply.specs.declared.replica.Applied.{Applied}
 use Rattle.replica_apply.specs.Replica.{ReplicaState, IsPrefixOf}
 use Rattle.replica_apply.specs.Applied.{Applies, Follows, GoesOn}
 
--- an entry of this number was handed to a replica; if it is a history's next, the replica stays a prefix of that history
+-- an entry of this number was handed to a replica; if it is a history's next, the replica stays
+-- a prefix of that history
 pub record TakesEntry (old new : ReplicaState) (n : ℕ) (entry : Entry) (result : Result Applied Memory) : Type 0 where
   pub applies : Applies old new n entry result
   pub follows : Follows old new entry result
@@ -28,7 +29,8 @@ abbrev pub AppliesOne : List Entry → (old new : ReplicaState) → Result Bool 
 AppliesOne h old new result = IsPrefixOf h old → old.applied ≤ length h → EndsOne h old new result
 
 -- at most `count` entries were applied; all of them if nothing was refused
-pub record HasApplied (h : List Entry) (count : ℕ) (old new : ReplicaState) (result : Result (Unit {0}) KeepFault) : Type 0 where
+pub record HasApplied (h : List Entry) (count : ℕ) (old new : ReplicaState)
+    (result : Result (Unit {0}) KeepFault) : Type 0 where
   pub prefix : IsPrefixOf h new
   pub up : old.applied ≤ new.applied
   pub within : new.applied ≤ min (old.applied + count) (length h)

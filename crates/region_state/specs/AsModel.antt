@@ -20,14 +20,30 @@ use Rattle.region_state.specs.declared.open_view.OpenView.{OpenView}
 use Rattle.region_state.specs.declared.snap_view.Snapped.{Snapped}
 
 abbrev pub view_of : ViewAsk → world.View
-view_of v = record { host = v.host; client = v.client; cookie = option_map cookie_of v.cookie; use_master = v.use_master; word = v.word; title = v.title }
+view_of v =
+    record {
+      host = v.host;
+      client = v.client;
+      cookie = option_map cookie_of v.cookie;
+      use_master = v.use_master;
+      word = v.word;
+      title = v.title;
+    }
 
 abbrev pub asked_of : Asked → world.Asked
 asked_of (asked.View v) = world.AskedView (view_of v)
 asked_of (asked.Edit e) = world.AskedEdit (edit_of e)
 
 abbrev pub page_of : PageAnswer → model.PageAnswer
-page_of p = record { title = p.title; source = p.source; origin = p.origin; put = p.put; lagged = p.lagged; page = arc_value p.page }
+page_of p =
+    record {
+      title = p.title;
+      source = p.source;
+      origin = p.origin;
+      put = p.put;
+      lagged = p.lagged;
+      page = arc_value p.page;
+    }
 
 abbrev pub answer_of : Answer → model.Answer
 answer_of (answers.Ok p) = model.Page (page_of p)
@@ -50,7 +66,14 @@ abbrev pub choice_of : (replica : ℕ) (lagged : Bool) → Choice
 choice_of replica lagged = if lagged then choice.Lagged replica else choice.At replica
 
 abbrev pub snapshot_of : Snapped → world.Snapshot
-snapshot_of s = record { choice = choice_of s.replica s.lagged; upto = s.snapshot.upto; since = s.snapshot.since; lag = s.snapshot.lag; pending = s.pending }
+snapshot_of s =
+    record {
+      choice = choice_of s.replica s.lagged;
+      upto = s.snapshot.upto;
+      since = s.snapshot.since;
+      lag = s.snapshot.lag;
+      pending = s.pending;
+    }
 
 -- a plan is that of a setting
 pub record IsPlanOf (setting : Setting) (plan : FarmPlan) : Type 0 where

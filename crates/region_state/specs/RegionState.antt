@@ -1,5 +1,5 @@
 -- The parts of a region, what holds of them at every moment, and how a call changes one of them.
-use Rattle.std.specs.Prelude.{ℕ, ◌≡◌, ◌⊎◌, ◌≤◌, ◌<◌, false, List, length, Option, Some, None, IfSome, slice_get, slice_set}
+use Rattle.std.specs.Prelude.{ℕ, ◌≡◌, ◌⊎◌, ◌≤◌, ◌<◌, false, List, length, Option, Some, IfSome, slice_get, slice_set}
 use Rattle.wiki_model.specs.Bytes.{Bytes}
 use Rattle.wiki_model.specs.Limits.{replicas_max}
 use Rattle.wiki_model.specs.Cache.{CacheMap, IsCache}
@@ -45,7 +45,8 @@ abbrev pub with_replica : {S : Type 0} → (i : ℕ) → ReplicaState → Region
 with_replica i kept parts = record parts { replicas = slice_set parts.replicas i kept }
 
 -- the cache changes so, which is there and is a cache again, and nothing else of the region
-pub record OnCache {S : Type 0} (cache_of : S → CacheMap Bytes) (old new : RegionParts S) (Changes : CacheMap Bytes → CacheMap Bytes → Type 0) : Type 0 where
+pub record OnCache {S : Type 0} (cache_of : S → CacheMap Bytes) (old new : RegionParts S)
+    (Changes : CacheMap Bytes → CacheMap Bytes → Type 0) : Type 0 where
   pub before : S
   pub after : S
   pub there : old.cache ≡ Some before
@@ -60,7 +61,8 @@ pub record OnPositions {S : Type 0} (old new : RegionParts S) (Changes : Positio
   pub changes : Changes old.positions after
 
 -- this replica changes so, and nothing else
-pub record OnReplica {S : Type 0} (i : ℕ) (old new : RegionParts S) (Changes : ReplicaState → ReplicaState → Type 0) : Type 0 where
+pub record OnReplica {S : Type 0} (i : ℕ) (old new : RegionParts S)
+    (Changes : ReplicaState → ReplicaState → Type 0) : Type 0 where
   pub before : ReplicaState
   pub after : ReplicaState
   pub there : slice_get old.replicas i ≡ Some before

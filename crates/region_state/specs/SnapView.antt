@@ -21,7 +21,8 @@ abbrev pub seen_rows : (now : ℕ) → (weights : List ℕ) → List ReplicaStat
 seen_rows now weights replicas = map (seen_row now) (zip weights replicas)
 
 -- the replica that was drawn, and its snapshot
-pub record SnapsIn {S : Type 0} (parts : RegionParts S) (title : Title) (need word : ℕ) (waiting : Bool) (now : ℕ) (s : Snapped) : Type 0 where
+pub record SnapsIn {S : Type 0} (parts : RegionParts S) (title : Title) (need word : ℕ) (waiting : Bool) (now : ℕ)
+    (s : Snapped) : Type 0 where
   pub replica : ReplicaState
   pub there : slice_get parts.replicas s.replica ≡ Some replica
   pub choice : IsChoice (seen_rows now parts.config.weights parts.replicas) need word (choice_of s.replica s.lagged)

@@ -13,7 +13,8 @@ abbrev pub known_in : Positions → Client → (now : ℕ) → Known
 known_in positions client now = unwrap_or (find_in positions client now) unknown
 
 abbrev pub lag_at : Positions → (applied : List ℕ) → ViewAsk → (now : ℕ) → Option Lag
-lag_at positions applied ask now = lag_behind (live_index now (view_of ask)) (known_in positions ask.client now) (greatest applied)
+lag_at positions applied ask now =
+    lag_behind (live_index now (view_of ask)) (known_in positions ask.client now) (greatest applied)
 
 -- how a view is behind in this region, or not
 abbrev pub lag_in : {S : Type 0} → RegionParts S → ViewAsk → (now : ℕ) → Option Lag

@@ -16,7 +16,8 @@ pub(crate) fn apply_all<K: Keeper>(
 ) -> Result<(), KeepFault>
     ensures content { K.content keeper.new ≡ K.content keeper.old }
     ensures cause { HasFault (K.faults keeper.old) (K.faults keeper.new) result }
-    ensures applies { (h : List history.Entry) → K.content keeper.old ≡ Some h → AppliesTo h count replica.old replica.new result }
+    ensures applies { (h : List history.Entry) → K.content keeper.old ≡ Some h
+        → AppliesTo h count replica.old replica.new result }
 {
     let mut left = count;
     while 0 < left {
@@ -33,7 +34,8 @@ pub(crate) fn apply_all<K: Keeper>(
 fn apply_one<K: Keeper>(keeper: &mut K, replica: &mut Replica) -> Result<bool, KeepFault>
     ensures content { K.content keeper.new ≡ K.content keeper.old }
     ensures cause { HasFault (K.faults keeper.old) (K.faults keeper.new) result }
-    ensures applies { (h : List history.Entry) → K.content keeper.old ≡ Some h → AppliesOne h replica.old replica.new result }
+    ensures applies { (h : List history.Entry) → K.content keeper.old ≡ Some h
+        → AppliesOne h replica.old replica.new result }
 {
     keeper.known();
     let n = next_of(replica.applied());

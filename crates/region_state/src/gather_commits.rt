@@ -1,5 +1,6 @@
 // The commits of a history whose positions still count, for regions that are opened over it.
-ghost use Rattle.std.specs.Prelude.{◌≡◌, ◌≤◌, ◌<◌, ◌+◌, ◌++◌, ◌∷◌, if◌then◌else◌, [], List, length, take, All, Some, IfOk, OnOk, nat_lt};
+ghost use Rattle.std.specs.Prelude.{◌≡◌, ◌≤◌, ◌<◌, ◌+◌, ◌++◌, ◌∷◌, if◌then◌else◌, [], List, length, take, All, Some};
+ghost use Rattle.std.specs.Prelude.{IfOk, OnOk, nat_lt};
 ghost use Rattle.wiki_model.specs.Limits.{greatest_moment, position_life};
 ghost use Rattle.wiki_model.specs.History as history;
 ghost use Rattle.wiki_model.specs.History.{entry_at};
@@ -15,8 +16,8 @@ use farm_base::{Memory, Moment};
 use revision_keeper::{KeepFault, Keeper};
 use std::alloc::Global;
 
-/// The commits of the history that are young at this moment, in its order. The keeper is asked only for the last entries,
-/// back to the first that is not young: the stamps of a history never fall.
+/// The commits of the history that are young at this moment, in its order. The keeper is asked only for the last
+/// entries, back to the first that is not young: the stamps of a history never fall.
 pub fn young_commits<K: Keeper>(
     alloc: Global,
     keeper: &mut K,
@@ -25,7 +26,8 @@ pub fn young_commits<K: Keeper>(
     ensures content { K.content keeper.new ≡ K.content keeper.old }
     ensures cause { HasFault (K.faults keeper.old) (K.faults keeper.new) result }
     ensures small { IfOk result (λ commits. AreSmall commits.items) }
-    ensures commits { (h : List history.Entry) → K.content keeper.old ≡ Some h → IfOk result (λ commits. commits.items ≡ commits_of (young_commits now h)) }
+    ensures commits { (h : List history.Entry) → K.content keeper.old ≡ Some h
+        → IfOk result (λ commits. commits.items ≡ commits_of (young_commits now h)) }
 {
     let len = keeper.len()?;
     let old = old_entries(keeper, len, now)?;
@@ -37,7 +39,8 @@ fn old_entries<K: Keeper>(keeper: &mut K, len: u64, now: Moment) -> Result<u64, 
     ensures content { K.content keeper.new ≡ K.content keeper.old }
     ensures cause { HasFault (K.faults keeper.old) (K.faults keeper.new) result }
     ensures within { IfOk result (λ old. old ≤ len) }
-    ensures none { (h : List history.Entry) → K.content keeper.old ≡ Some h → len ≡ length h → IfOk result (λ old. young_commits now (take old h) ≡ []) }
+    ensures none { (h : List history.Entry) → K.content keeper.old ≡ Some h → len ≡ length h
+        → IfOk result (λ old. young_commits now (take old h) ≡ []) }
 {
     keeper.known();
     let mut old = len;
@@ -55,7 +58,8 @@ fn old_entries<K: Keeper>(keeper: &mut K, len: u64, now: Moment) -> Result<u64, 
 fn is_young<K: Keeper>(keeper: &mut K, n: u64, now: Moment) -> Result<bool, KeepFault>
     ensures content { K.content keeper.new ≡ K.content keeper.old }
     ensures cause { HasFault (K.faults keeper.old) (K.faults keeper.new) result }
-    ensures value { (h : List history.Entry) → K.content keeper.old ≡ Some h → IfOk result (λ young. young ≡ is_young_at now (entry_at h n)) }
+    ensures value { (h : List history.Entry) → K.content keeper.old ≡ Some h
+        → IfOk result (λ young. young ≡ is_young_at now (entry_at h n)) }
 {
     match keeper.entry(n) {
         Err(fault) => Err(fault),
@@ -95,7 +99,9 @@ fn gather<K: Keeper>(
     ensures content { K.content keeper.new ≡ K.content keeper.old }
     ensures cause { HasFault (K.faults keeper.old) (K.faults keeper.new) result }
     ensures small { IfOk result (λ commits. AreSmall commits.items) }
-    ensures commits { (h : List history.Entry) → K.content keeper.old ≡ Some h → len ≡ length h → young_commits now (take old h) ≡ [] → IfOk result (λ commits. commits.items ≡ commits_of (young_commits now h)) }
+    ensures commits { (h : List history.Entry) → K.content keeper.old ≡ Some h → len ≡ length h
+        → young_commits now (take old h) ≡ []
+        → IfOk result (λ commits. commits.items ≡ commits_of (young_commits now h)) }
 {
     let mut commits = Vec::new(alloc);
     let mut n = old;
@@ -118,7 +124,8 @@ fn gather_one<K: Keeper>(
     ensures content { K.content keeper.new ≡ K.content keeper.old }
     ensures cause { HasFault (K.faults keeper.old) (K.faults keeper.new) result }
     ensures small { OnOk result (AreSmall commits.old.items → AreSmall commits.new.items) }
-    ensures added { (h : List history.Entry) → K.content keeper.old ≡ Some h → OnOk result (commits.new.items ≡ commits.old.items ++ told_at now n (entry_at h n)) }
+    ensures added { (h : List history.Entry) → K.content keeper.old ≡ Some h
+        → OnOk result (commits.new.items ≡ commits.old.items ++ told_at now n (entry_at h n)) }
 {
     match keeper.entry(n) {
         Err(fault) => Err(fault),
@@ -166,7 +173,8 @@ fn push_if_young(
 ) -> Result<(), Memory>
     requires { commit.stamp ≤ greatest_moment }
     ensures small { OnOk result (AreSmall commits.old.items → AreSmall commits.new.items) }
-    ensures added { OnOk result (commits.new.items ≡ commits.old.items ++ (if counts now commit.stamp then commit ∷ [] else [])) }
+    ensures added { OnOk result (commits.new.items
+        ≡ commits.old.items ++ (if counts now commit.stamp then commit ∷ [] else [])) }
 {
     if !counts(commit.stamp, now) {
         return Ok(());

@@ -58,13 +58,27 @@ impl<S: RegionStore<Page>> Model for RegionState<S> {
 
     ghost Value = { RegionParts S };
 
-    ghost view = { λ r. record { config = record { weights = r.weights.items; epoch = r.epoch; read_lag = r.read_lag }; markup = r.markup; replicas = r.replicas.items; positions = r.positions; cache = r.cache } };
+    ghost view = { λ r. record {
+      config = record { weights = r.weights.items; epoch = r.epoch; read_lag = r.read_lag };
+      markup = r.markup;
+      replicas = r.replicas.items;
+      positions = r.positions;
+      cache = r.cache;
+    } };
 
-    ghost invariant = { λ r. IsRegion S.cache (record { config = record { weights = r.weights.items; epoch = r.epoch; read_lag = r.read_lag }; markup = r.markup; replicas = r.replicas.items; positions = r.positions; cache = r.cache }) };
+    ghost invariant = { λ r. IsRegion S.cache
+        (record {
+          config = record { weights = r.weights.items; epoch = r.epoch; read_lag = r.read_lag };
+          markup = r.markup;
+          replicas = r.replicas.items;
+          positions = r.positions;
+          cache = r.cache;
+        }) };
 }
 
 impl<S: RegionStore<Page>> RegionState<S> {
-    ghost use Rattle.std.specs.Prelude.{◌≡◌, ◌≤◌, ◌<◌, ◌+◌, ◌||◌, false, List, length, Some, None, IsSome, IsTrue, IfSome, IfOk, IfErr, OnOk, OnErr, slice_get, slice_set, nat_le, is_some};
+    ghost use Rattle.std.specs.Prelude.{◌≡◌, ◌≤◌, ◌<◌, ◌+◌, ◌||◌, false, List, length, Some, None, IsSome, IsTrue};
+    ghost use Rattle.std.specs.Prelude.{IfSome, IfOk, IfErr, OnOk, OnErr, slice_get, slice_set, nat_le, is_some};
     ghost use Rattle.wiki_model.specs.Limits.{greatest_moment, bound_max, replicas_max, wait_limit, position_life};
     ghost use Rattle.wiki_model.specs.Cache.{look as look_in};
     ghost use Rattle.wiki_model.specs.CacheCalls.{TakesPurge};
@@ -127,11 +141,12 @@ impl<S: RegionStore<Page>> RegionState<S> {
         self.replicas.len() as u8
     }
 
-    /// Takes the positions of commits, as [`crate::young_commits`] gives them, for a region that is opened over a history.
-    /// If memory is refused, those before are taken.
+    /// Takes the positions of commits, as [`crate::young_commits`] gives them, for a region that is opened over a
+    /// history. If memory is refused, those before are taken.
     pub fn rebuild(&mut self, commits: &[ClientCommit]) -> Result<(), Memory>
         requires { AreSmall commits.now }
-        ensures ok { OnOk result (OnPositions self.old self.new (λ old new. (ns : List history.Numbered) → commits.now ≡ commits_of ns → rows_in new ≡ told_all ns (rows_in old))) }
+        ensures ok { OnOk result (OnPositions self.old self.new (λ old new. (ns : List history.Numbered)
+            → commits.now ≡ commits_of ns → rows_in new ≡ told_all ns (rows_in old))) }
         ensures err { OnErr result (OnPositions self.old self.new (TellsPrefix commits.now)) }
     {
         self.positions.rebuild(commits)
@@ -156,7 +171,8 @@ impl<S: RegionStore<Page>> RegionState<S> {
         requires { replica < length self.old.replicas }
         ensures content { K.content keeper.new ≡ K.content keeper.old }
         ensures cause { HasFault (K.faults keeper.old) (K.faults keeper.new) result }
-        ensures applies { OnReplica replica self.old self.new (λ old new. (h : List history.Entry) → K.content keeper.old ≡ Some h → AppliesTo h count old new result) }
+        ensures applies { OnReplica replica self.old self.new (λ old new. (h : List history.Entry)
+            → K.content keeper.old ≡ Some h → AppliesTo h count old new result) }
     {
         apply_all(keeper, &mut self.replicas[replica as usize], count)
     }
@@ -164,7 +180,8 @@ impl<S: RegionStore<Page>> RegionState<S> {
     /// Whether a view that arrived then goes on, waits or gives up. `last` says that it may not wait again. It takes no
     /// memory.
     pub fn wait(&self, ask: &ViewAsk, arrived: Moment, now: Moment, last: bool) -> Wait
-        ensures { result ≡ waits (last || nat_le (arrived + wait_limit) now) (known_in self.now.positions ask.now.client now).position (lag_in self.now ask.now now) }
+        ensures { result ≡ waits (last || nat_le (arrived + wait_limit) now)
+            (known_in self.now.positions ask.now.client now).position (lag_in self.now ask.now now) }
     {
         wait_at(&self.positions, &self.replicas, ask, arrived, now, last)
     }
@@ -174,7 +191,8 @@ impl<S: RegionStore<Page>> RegionState<S> {
         requires there { IsSome self.now.cache }
         requires later { IsBefore S.cache self.now now }
         requires small { now ≤ greatest_moment }
-        ensures { IfSome self.now.cache (λ c. IsFound result (look_in (S.cache c) title.now now (ask_for self.now need))) }
+        ensures { IfSome self.now.cache (λ c. IsFound result
+            (look_in (S.cache c) title.now now (ask_for self.now need))) }
     {
         let ask = Ask {
             epoch: self.epoch,
@@ -219,8 +237,8 @@ impl<S: RegionStore<Page>> RegionState<S> {
         })
     }
 
-    /// Renders the page of a snapshot of the title, puts it into the cache as the rule allows, and answers it; or answers
-    /// that there is no page. Out of memory changes nothing, but for a put that is noted so on the page.
+    /// Renders the page of a snapshot of the title, puts it into the cache as the rule allows, and answers it; or
+    /// answers that there is no page. Out of memory changes nothing, but for a put that is noted so on the page.
     pub fn store(&mut self, alloc: Global, title: &Title, snapped: &Snapped, now: Moment) -> Answer
         requires there { IsSome self.old.cache }
         requires later { IsBefore S.cache self.old now }
@@ -235,8 +253,8 @@ impl<S: RegionStore<Page>> RegionState<S> {
         store_into(alloc, &mut self.cache, title, snapped, now, rules)
     }
 
-    /// Takes a purge: the title is kept out of the cache for the hold-off, and all titles if it stands on their pages. It
-    /// takes no memory.
+    /// Takes a purge: the title is kept out of the cache for the hold-off, and all titles if it stands on their pages.
+    /// It takes no memory.
     pub fn receive(&mut self, title: &Title, now: Moment)
         requires there { IsSome self.old.cache }
         requires later { IsBefore S.cache self.old now }
@@ -259,7 +277,8 @@ impl<S: RegionStore<Page>> RegionState<S> {
         stamp: Moment,
     ) -> Result<RelayAnswer, Memory>
         requires { stamp ≤ greatest_moment }
-        ensures ok { OnOk result (OnPositions self.old self.new (TellsPosition client.now index entry (stamp + position_life))) }
+        ensures ok { OnOk result (OnPositions self.old self.new
+            (TellsPosition client.now index entry (stamp + position_life))) }
         ensures err { OnErr result (self.new ≡ self.old) }
     {
         let position = Position { entry };
@@ -267,8 +286,8 @@ impl<S: RegionStore<Page>> RegionState<S> {
             .take_relay(client, index, position, expiry(stamp))
     }
 
-    /// Forgets the positions that have expired, if the clients with a row have doubled since the last time. It is linear in the
-    /// rows when it does, so a row costs constant time in the long run. It takes no memory.
+    /// Forgets the positions that have expired, if the clients with a row have doubled since the last time. It is
+    /// linear in the rows when it does, so a row costs constant time in the long run. It takes no memory.
     pub fn sweep(&mut self, now: Moment)
         ensures { OnPositions self.old self.new (MaySweep now) }
     {
@@ -287,7 +306,9 @@ impl<S: RegionStore<Page>> RegionState<S> {
         requires small { now ≤ greatest_moment }
         requires delay { delay ≤ bound_max }
         ensures cause { HasStoreFault (K.faults keeper.old) (K.faults keeper.new) result }
-        ensures begins { OnPositions self.old self.new (λ old new. Begins (state_of (K.content keeper.old) ledger.old old) (state_of (K.content keeper.new) ledger.new new) (edit_of ask) now delay result) }
+        ensures begins { OnPositions self.old self.new
+            (λ old new. Begins (state_of (K.content keeper.old) ledger.old old)
+            (state_of (K.content keeper.new) ledger.new new) (edit_of ask) now delay result) }
     {
         begin(keeper, ledger, &mut self.positions, ask, now, delay)
     }
@@ -305,7 +326,9 @@ impl<S: RegionStore<Page>> RegionState<S> {
         requires small { now ≤ greatest_moment }
         requires later { IfSome (K.content keeper.old) (λ h. stamp_at h (length h) ≤ now) }
         ensures cause { HasStoreFault (K.faults keeper.old) (K.faults keeper.new) result }
-        ensures commits { OnPositions self.old self.new (λ old new. CommitsWithOutcome (state_of (K.content keeper.old) ledger.old old) (state_of (K.content keeper.new) ledger.new new) edit now result) }
+        ensures commits { OnPositions self.old self.new
+            (λ old new. CommitsWithOutcome (state_of (K.content keeper.old) ledger.old old)
+            (state_of (K.content keeper.new) ledger.new new) edit now result) }
     {
         commit_with_outcome(keeper, ledger, &mut self.positions, edit, now)
     }

@@ -6,7 +6,8 @@ ghost use Rattle.wiki_model.specs.Cache.{IsCache, set_rule};
 ghost use Rattle.wiki_model.specs.Limits.{greatest_moment};
 ghost use Rattle.wan_value.specs.AsModel.{value_of};
 ghost use Rattle.region_state.specs.AsModel.{answer_of};
-ghost use Rattle.region_state.specs.StoreView.{NotesPut, StoresAt, StoresInto, StoresBy, replica_answer, rendered, value_from};
+ghost use Rattle.region_state.specs.StoreView.{NotesPut, StoresAt, StoresInto, StoresBy, replica_answer, rendered};
+ghost use Rattle.region_state.specs.StoreView.{value_from};
 
 use crate::answer::{Answer, PageAnswer};
 use crate::replica_rows::age_at;
@@ -52,7 +53,8 @@ pub(crate) fn store_into<S: RegionStore<Page>>(
     requires open { IfSome cache.old (λ c. (S.cache c).shared ≡ false) }
     requires later { IfSome cache.old (λ c. (S.cache c).greatest ≤ now) }
     requires small { now ≤ greatest_moment }
-    ensures stores { StoresInto S.cache cache.old cache.new title.now snapped.now now rules.read_lag rules.markup (answer_of result) }
+    ensures stores { StoresInto S.cache cache.old cache.new title.now snapped.now now rules.read_lag rules.markup
+        (answer_of result) }
     ensures last { IfSome cache.new (λ c. (S.cache c).greatest ≤ now) }
 {
     match cache {
@@ -73,7 +75,8 @@ fn store_at<S: RegionStore<Page>>(
     requires open { (S.cache cache.old).shared ≡ false }
     requires later { (S.cache cache.old).greatest ≤ now }
     requires small { now ≤ greatest_moment }
-    ensures stores { StoresAt S.cache cache.old cache.new title.now snapped.now now rules.read_lag rules.markup (answer_of result) }
+    ensures stores { StoresAt S.cache cache.old cache.new title.now snapped.now now rules.read_lag rules.markup
+        (answer_of result) }
     ensures last { (S.cache cache.new).greatest ≤ now }
 {
     let Some(text) = &snapped.snapshot.page else {
@@ -151,7 +154,8 @@ fn shared(
 
 /// How a page of this snapshot may be stored now, by its lag, by its age, and by an edit that was begun.
 fn rule_for(snapped: &Snapped, now: Moment, read_lag: u32) -> SetRule
-    ensures { result ≡ set_rule snapped.now.snapshot.lag (now - snapped.now.snapshot.since) snapped.now.pending read_lag }
+    ensures { result ≡ set_rule snapped.now.snapshot.lag (now - snapped.now.snapshot.since) snapped.now.pending
+        read_lag }
 {
     let age = age_at(now, snapped.snapshot.since);
     let read_lag = u64::from(read_lag);
@@ -171,7 +175,8 @@ fn put_by<S: RegionStore<Page>>(
     requires small { made.at ≤ greatest_moment }
     ensures known { IsCache (S.cache cache.new) }
     ensures last { (S.cache cache.new).greatest ≤ made.at }
-    ensures stores { StoresBy rule (S.cache cache.old) (S.cache cache.new) title.now snapshot.now (arc_value made.page) made.at made.markup result }
+    ensures stores { StoresBy rule (S.cache cache.old) (S.cache cache.new) title.now snapshot.now (arc_value made.page)
+        made.at made.markup result }
 {
     let note = put_under(rule, cache, title, snapshot, made);
     cache.known();
@@ -189,7 +194,8 @@ fn put_under<S: RegionStore<Page>>(
     requires later { (S.cache cache.old).greatest ≤ made.at }
     requires small { made.at ≤ greatest_moment }
     ensures last { (S.cache cache.new).greatest ≤ made.at }
-    ensures stores { StoresBy rule (S.cache cache.old) (S.cache cache.new) title.now snapshot.now (arc_value made.page) made.at made.markup result }
+    ensures stores { StoresBy rule (S.cache cache.old) (S.cache cache.new) title.now snapshot.now (arc_value made.page)
+        made.at made.markup result }
 {
     match rule {
         SetRule::Whole => {

@@ -42,7 +42,9 @@ pub(crate) fn wait_at(
     now: Moment,
     last: bool,
 ) -> Wait
-    ensures { result ≡ waits (last || nat_le (arrived + wait_limit) now) (known_in positions.now ask.now.client now).position (lag_at positions.now (map (λ k. k.applied) replicas.now) ask.now now) }
+    ensures { result ≡ waits (last || nat_le (arrived + wait_limit) now)
+        (known_in positions.now ask.now.client now).position
+        (lag_at positions.now (map (λ k. k.applied) replicas.now) ask.now now) }
 {
     let (known_index, need) = known(positions, &ask.client, now);
     let index = live_index(ask, now);
@@ -90,7 +92,8 @@ fn live_index(ask: &ViewAsk, now: Moment) -> u64
 
 /// How a view is behind, if it is.
 fn behind(index: u64, known_index: u64, need: u64, applied: u64) -> Option<(Behind, u64, u64)>
-    ensures { option_map (λ lag. record { by = lag.0; needed = lag.1; reached = lag.2 }) result ≡ lag_behind index (record { index = known_index; position = need }) applied }
+    ensures { option_map (λ lag. record { by = lag.0; needed = lag.1; reached = lag.2 }) result
+        ≡ lag_behind index (record { index = known_index; position = need }) applied }
 {
     if known_index < index {
         Some((Behind::Index, index, known_index))

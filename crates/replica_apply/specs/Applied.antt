@@ -37,7 +37,8 @@ Follows old new entry (Err want) = Unit {0}
 
 -- the replica of a prefix of a history takes the entry after it, and is that of the prefix of one entry more
 abbrev pub GoesOn : (old new : ReplicaState) → (n : ℕ) → Entry → Result Applied Memory → Type 0
-GoesOn old new n entry (Ok Done) = (history : List Entry) → IsPrefixOf history old → entry_at history n ≡ Some entry → IsPrefixOf history new
+GoesOn old new n entry (Ok Done) =
+    (history : List Entry) → IsPrefixOf history old → entry_at history n ≡ Some entry → IsPrefixOf history new
 GoesOn old new n entry (Ok (Repeat have)) = Unit {0}
 GoesOn old new n entry (Ok (Gap have got)) = Unit {0}
 GoesOn old new n entry (Err want) = Unit {0}

@@ -19,7 +19,8 @@ abbrev pub Reached : (pages : Templates) → (stages : ℕ) → Bytes → Title 
 Reached pages zero text title = ⊥
 Reached pages (suc stages) text title =
     Contains (names_from text) title
-    ⊎ ((via : Title) × (inner : Text) × Contains (names_from text) via × (pages via ≡ Some inner) × Reached pages stages (in_line inner) title)
+    ⊎ ((via : Title) × (inner : Text) × Contains (names_from text) via × (pages via ≡ Some inner)
+    × Reached pages stages (in_line inner) title)
 
 -- these pages, each below those after it
 pub record IsListOf (pages : Templates) (list : List (Title × Text)) : Type 0 where
@@ -29,7 +30,8 @@ pub record IsListOf (pages : Templates) (list : List (Title × Text)) : Type 0 w
 -- the pages that are there of the templates that a text reaches, in title order
 pub record AreTemplates (pages : Templates) (stages : ℕ) (text : Bytes) (templates : List (Title × Text)) : Type 0 where
   pub sorted : IsStrictlySortedBy bytes_cmp (keys_of templates)
-  pub same : (name : Title) (inner : Text) → Contains templates (name, inner) ↔ (Reached pages stages text name × (pages name ≡ Some inner))
+  pub same : (name : Title) (inner : Text) → Contains templates (name, inner)
+      ↔ (Reached pages stages text name × (pages name ≡ Some inner))
 
 -- templates nest only so deep
 abbrev pub AreTemplatesOf : (pages : Templates) → (page : Option Text) → List (Title × Text) → Type 0

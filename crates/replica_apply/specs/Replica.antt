@@ -22,7 +22,8 @@ page_at pages title = get bytes_cmp pages title
 
 -- the title has this text, and every other title what it had
 abbrev pub Puts : (old new : BTreeMap Title Text) → Title → Text → Type 0
-Puts old new title text = (name : Title) → page_at new name ≡ (if bytes_eq title name then Some text else page_at old name)
+Puts old new title text =
+    (name : Title) → page_at new name ≡ (if bytes_eq title name then Some text else page_at old name)
 
 -- what is kept is all of this history
 pub record IsPrefix (history : List Entry) (kept : ReplicaState) : Type 0 where

@@ -41,4 +41,6 @@ IsOfEach kept title reading s = (history : List Entry) → IsPrefixOf history ke
 
 -- a snapshot of a prefix stays one of it as the history grows
 abbrev pub SnapshotsLast : Type 0
-SnapshotsLast = (history more : List Entry) (title : Title) (reading : ℕ) (s : Snapshot) → IsOf history title reading s → IsOf (history ++ more) title reading s
+SnapshotsLast =
+    (history more : List Entry) (title : Title) (reading : ℕ) (s : Snapshot) → IsOf history title reading s
+    → IsOf (history ++ more) title reading s

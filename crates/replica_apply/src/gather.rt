@@ -53,7 +53,8 @@ fn first_stage(
     text: &Text,
 ) -> Result<Vec<Text>, Memory>
     requires { IsPart (page_at pages.now) (page_at taken.old) }
-    ensures { IfOk result (λ unread. GathersInto pages.now taken.old taken.new [] unread.items (Contains (names_from text.now))) }
+    ensures { IfOk result (λ unread. GathersInto pages.now taken.old taken.new [] unread.items
+        (Contains (names_from text.now))) }
 {
     let mut unread = Vec::new(alloc);
     let names = page_markup::template_names(alloc, text)?;
@@ -87,7 +88,8 @@ fn read_text(
     text: &Text,
 ) -> Result<(), Memory>
     requires { IsPart (page_at pages.now) (page_at taken.old) }
-    ensures { OnOk result (GathersInto pages.now taken.old taken.new unread.old.items unread.new.items (Contains (names_from (in_line text.now)))) }
+    ensures { OnOk result (GathersInto pages.now taken.old taken.new unread.old.items unread.new.items
+        (Contains (names_from (in_line text.now)))) }
 {
     let names = page_markup::template_names_spaced(alloc, text)?;
     add_pages(pages, taken, unread, &names)?;
@@ -102,7 +104,8 @@ fn add_pages(
     titles: &[Title],
 ) -> Result<(), Memory>
     requires { IsPart (page_at pages.now) (page_at taken.old) }
-    ensures { OnOk result (GathersInto pages.now taken.old taken.new unread.old.items unread.new.items (Contains titles.now)) }
+    ensures { OnOk result (GathersInto pages.now taken.old taken.new unread.old.items unread.new.items
+        (Contains titles.now)) }
 {
     for title in titles {
         add_page(pages, taken, unread, title)?;
@@ -119,7 +122,8 @@ fn add_page(
     title: &Title,
 ) -> Result<(), Memory>
     requires { IsPart (page_at pages.now) (page_at taken.old) }
-    ensures { OnOk result (GathersInto pages.now taken.old taken.new unread.old.items unread.new.items (λ name. name ≡ title.now)) }
+    ensures { OnOk result (GathersInto pages.now taken.old taken.new unread.old.items unread.new.items
+        (λ name. name ≡ title.now)) }
 {
     if taken.contains_key(title) {
         return Ok(());

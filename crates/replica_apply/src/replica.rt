@@ -152,7 +152,8 @@ fn bind(
 ) -> Result<(), AllocError>
     requires { notice.old ≡ page_at pages.old notice_title }
     ensures ready { notice.new ≡ page_at pages.new notice_title }
-    ensures ok { OnOk result ((name : TitleText) → page_at pages.new name ≡ page_after (entry_of entry.now) name (page_at pages.old name)) }
+    ensures ok { OnOk result ((name : TitleText) → page_at pages.new name
+        ≡ page_after (entry_of entry.now) name (page_at pages.old name)) }
     ensures err { OnErr result (pages.new.entries ≡ pages.old.entries) }
     ensures memory { OnErr result (IsCommit (entry_of entry.now)) }
 {

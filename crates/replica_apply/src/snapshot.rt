@@ -51,7 +51,8 @@ pub(crate) fn take(
     title: &Title,
 ) -> Result<Snapshot, Memory>
     requires { notice.now ≡ page_at pages.now notice_title }
-    ensures { IfOk result (λ s. IsSnapshot (record { applied = point.upto; stamp = point.stamp; pages = pages.now.entries }) title.now point.reading s) }
+    ensures { IfOk result (λ s. IsSnapshot
+        (record { applied = point.upto; stamp = point.stamp; pages = pages.now.entries }) title.now point.reading s) }
 {
     let page = page_of(pages, title)?;
     let templates = templates_for(alloc, pages, &page)?;

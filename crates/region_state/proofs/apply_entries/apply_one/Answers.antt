@@ -1,4 +1,4 @@
-use Rattle.std.proofs.Common.{◌≡◌, ◌<◌, ◌^◌, Some, Option, List, length, sym, ap, subst, option_map, ◌∙◌}
+use Rattle.std.proofs.Common.{◌≡◌, ◌<◌, ◌^◌, Option, List, length, sym, ap, subst, option_map, ◌∙◌}
 use Rattle.std.specs.Prelude.{IfSome, Result, Bool}
 use Rattle.wiki_model.specs.History.{Entry, entry_at}
 use Rattle.commit_feed.specs.AsModel.{entry_of}

@@ -1,4 +1,4 @@
-use Rattle.std.proofs.Common.{◌≡◌, ◌≤◌, ◌∙◌, length, List, Option, subst, sym, arith}
+use Rattle.std.proofs.Common.{◌∙◌, List, Option, subst, arith}
 use Rattle.std.specs.Prelude.{IfSome}
 use Rattle.wiki_model.specs.History.{Entry, IsHistory}
 use Rattle.region_state.proofs.GatheringCommits.{old_before}
