@@ -1,3 +1,4 @@
 mod Rows
+mod Begins
 mod Puts
 mod Purges

@@ -1,7 +1,7 @@
 -- A put into one slot is a put into the map. By the slot's floor and the checks, which it does not change, the value
--- goes to one of the two places; what another key of the slot had there is gone, and the other place is not written.
--- A key with another number has another row.
-use Rattle.std.proofs.Common.{ℕ, ◌≡◌, ◌≢◌, max, List, slice_index, Bool, true, false, cond, Option, refl, sym, ap, ◌∙◌, inl, inr, nat_lt, subst, le_refl}
+-- goes to one of the two places, and the row is then the key's: the other place has what it had for the key, and what
+-- another key of the slot had is gone. A key with another number has another row.
+use Rattle.std.proofs.Common.{ℕ, ◌≡◌, ◌≢◌, max, List, slice_index, Bool, true, false, cond, Option, Some, refl, sym, ap, ◌∙◌, inl, inr, nat_lt, subst, le_refl}
 use Rattle.std.proofs.Math.ListN.{get_or}
 use Rattle.std.specs.Global.{Box}
 use Rattle.wiki_model.specs.declared.Put.{Put}
@@ -11,9 +11,8 @@ use Rattle.wiki_model.specs.Cache.{not_below, is_held, MayGo, Puts, Places, Same
 use Rattle.wan_value.specs.declared.Value.{Value}
 use Rattle.wan_value.specs.AsModel.{value_of}
 use Rattle.wan_cache.specs.Rules.{shown, placed}
-use Rattle.slot_cache.specs.declared.slot_row.KeyedValue.{KeyedValue}
 use Rattle.slot_cache.specs.declared.slot_row.SlotRow.{SlotRow}
-use Rattle.slot_cache.specs.SlotRow.{value_for, main_for, interim_for, Stores}
+use Rattle.slot_cache.specs.SlotRow.{main_of, interim_of, main_for, interim_for, Stores}
 use Rattle.slot_cache.specs.SlotCache.{SlotState, row_in, slot_at, floor_at, StoresIn}
 use Rattle.slot_cache.specs.AsModel.{map_of}
 use Rattle.slot_cache.proofs.Rows.{same_number, other_number, own_value, no_value, not_below_same, free_stays}
@@ -65,47 +64,57 @@ module _ {P : Type 0} where
       check : ℕ
       check = max old.template_check old.message_check
 
-      main_is : (q : Title) → main_for (row_in rows slot) q ≡ value_for stores.after.main q
+      main_is : (q : Title) → main_for (row_in rows slot) q ≡ main_of stores.after q
       main_is q = ap (λ (o : Option (SlotRow P)). main_for o q) stores.now_there
 
-      main_was : (q : Title) → main_for (row_in old.rows slot) q ≡ value_for stores.before.main q
+      main_was : (q : Title) → main_for (row_in old.rows slot) q ≡ main_of stores.before q
       main_was q = ap (λ (o : Option (SlotRow P)). main_for o q) stores.there
 
-      interim_is : (q : Title) → interim_for (row_in rows slot) q ≡ value_for stores.after.interim q
+      interim_is : (q : Title) → interim_for (row_in rows slot) q ≡ interim_of stores.after q
       interim_is q = ap (λ (o : Option (SlotRow P)). interim_for o q) stores.now_there
 
-      interim_was : (q : Title) → interim_for (row_in old.rows slot) q ≡ value_for stores.before.interim q
+      interim_was : (q : Title) → interim_for (row_in old.rows slot) q ≡ interim_of stores.before q
       interim_was q = ap (λ (o : Option (SlotRow P)). interim_for o q) stores.there
 
-      same_interim : (q : Title) → stores.after.interim ≡ stores.before.interim → shown (interim_for (row_in rows slot) q) ≡ shown (interim_for (row_in old.rows slot) q)
-      same_interim q e = ap shown (interim_is q ∙ (ap (λ (o : Option (KeyedValue P)). value_for o q) e ∙ sym (interim_was q)))
+      -- the place that is not filled has what it had for the key
 
-      same_main : (q : Title) → stores.after.main ≡ stores.before.main → main_for (row_in rows slot) q ≡ main_for (row_in old.rows slot) q
-      same_main q e = main_is q ∙ (ap (λ (o : Option (KeyedValue P)). value_for o q) e ∙ sym (main_was q))
+      kept_interim : stores.after.key ≡ key → stores.after.interim ≡ interim_of stores.before key → shown (interim_for (row_in rows slot) key) ≡ shown (interim_for (row_in old.rows slot) key)
+      kept_interim k e = ap shown (interim_is key ∙ (own_value stores.after.key key stores.after.interim k ∙ (e ∙ sym (interim_was key))))
 
-      kept_main : stores.after.main ≡ stores.before.main → not_below floor (shown (main_for (row_in rows slot) key)) ≡ not_below floor (not_below floor (shown (main_for (row_in old.rows slot) key)))
-      kept_main e = ap (λ (o : Option (Value P)). not_below floor (shown o)) (same_main key e) ∙ sym (not_below_same floor (shown (main_for (row_in old.rows slot) key)))
+      kept_main : stores.after.key ≡ key → stores.after.main ≡ main_of stores.before key
+          → not_below floor (shown (main_for (row_in rows slot) key)) ≡ not_below floor (not_below floor (shown (main_for (row_in old.rows slot) key)))
+      kept_main k e = ap (λ (o : Option (Value P)). not_below floor (shown o)) (main_is key ∙ (own_value stores.after.key key stores.after.main k ∙ (e ∙ sym (main_was key))))
+          ∙ sym (not_below_same floor (shown (main_for (row_in old.rows slot) key)))
+
+      -- if nothing is stored, the row stays
+      same_row : stores.after ≡ stores.before → row_in rows slot ≡ row_in old.rows slot
+      same_row e = stores.now_there ∙ (ap Some e ∙ sym stores.there)
 
       in_place : (a : Put) → a ≡ placed floor check value.set_at value.lagged → Stores stores.before stores.after key value a → Places (map_of old) (map_of new) key (value_of value) a
       in_place Main e s =
           let free = main_if_free (is_held floor check value.set_at) value.lagged (cond (nat_lt value.set_at floor) floor check) e in
-          (free, ap (λ (o : Option (Value P)). not_below floor (shown o)) (main_is key ∙ own_value stores.after.main key value s.0) ∙ free_stays floor check (value_of value) free, same_interim key s.1)
+          (free, ap (λ (o : Option (Value P)). not_below floor (shown o)) (main_is key ∙ (own_value stores.after.key key stores.after.main s.0 ∙ s.1)) ∙ free_stays floor check (value_of value) free, kept_interim s.0 s.2)
       in_place Interim e s =
           let held = interim_if_held (is_held floor check value.set_at) value.lagged (cond (nat_lt value.set_at floor) floor check) e in
-          (held.0, held.1, ap shown (interim_is key ∙ own_value stores.after.interim key value s.0), kept_main s.1)
+          (held.0, held.1, ap shown (interim_is key ∙ (own_value stores.after.key key stores.after.interim s.0 ∙ s.1)), kept_main s.0 s.2)
       in_place (Held until) e s =
           let held = held_if_lagged (is_held floor check value.set_at) value.lagged (cond (nat_lt value.set_at floor) floor check) until e in
-          (held.0, held.1, held.2, same_interim key (ap (λ (r : SlotRow P). r.interim) s), kept_main (ap (λ (r : SlotRow P). r.main) s))
+          (held.0, held.1, held.2, ap (λ (o : Option (SlotRow P)). shown (interim_for o key)) (same_row s), ap (λ (o : Option (SlotRow P)). not_below floor (shown (main_for o key))) (same_row s) ∙ sym (not_below_same floor (shown (main_for (row_in old.rows slot) key))))
       in_place (Busy holder) e s = absurd s
       in_place Memory e s = absurd s
 
-      -- another key of the slot loses at most what was in the place that was filled
+      -- once the row is the key's, another key has nothing there
+      no_others : (other : Title) → other ≢ key → stores.after.key ≡ key
+          → MayGo (not_below floor (shown (main_for (row_in old.rows slot) other))) (not_below floor (shown (main_for (row_in rows slot) other)))
+          × MayGo (shown (interim_for (row_in old.rows slot) other)) (shown (interim_for (row_in rows slot) other))
+      no_others other n k = (inr (ap (λ (o : Option (Value P)). not_below floor (shown o)) (main_is other ∙ no_value stores.after.key key other stores.after.main k n)), inr (ap shown (interim_is other ∙ no_value stores.after.key key other stores.after.interim k n)))
+
       left : (other : Title) → other ≢ key → (a : Put) → Stores stores.before stores.after key value a
           → MayGo (not_below floor (shown (main_for (row_in old.rows slot) other))) (not_below floor (shown (main_for (row_in rows slot) other)))
           × MayGo (shown (interim_for (row_in old.rows slot) other)) (shown (interim_for (row_in rows slot) other))
-      left other n Main s = (inr (ap (λ (o : Option (Value P)). not_below floor (shown o)) (main_is other ∙ no_value stores.after.main key other value s.0 n)), inl (same_interim other s.1))
-      left other n Interim s = (inl (ap (λ (o : Option (Value P)). not_below floor (shown o)) (same_main other s.1)), inr (ap shown (interim_is other ∙ no_value stores.after.interim key other value s.0 n)))
-      left other n (Held until) s = (inl (ap (λ (o : Option (Value P)). not_below floor (shown o)) (same_main other (ap (λ (r : SlotRow P). r.main) s))), inl (same_interim other (ap (λ (r : SlotRow P). r.interim) s)))
+      left other n Main s = no_others other n s.0
+      left other n Interim s = no_others other n s.0
+      left other n (Held until) s = (inl (ap (λ (o : Option (SlotRow P)). not_below floor (shown (main_for o other))) (same_row s)), inl (ap (λ (o : Option (SlotRow P)). shown (interim_for o other)) (same_row s)))
       left other n (Busy holder) s = absurd s
       left other n Memory s = absurd s
 

@@ -1,5 +1,5 @@
--- What one slot's row says of the map. A place that was filled for a key has the key's value and no other key's,
--- since keys are compared by all their bytes. A call that writes one row leaves every other place of the list.
+-- What one slot's row says of the map. A row that is a key's shows its values to that key and to no other, since keys
+-- are compared by all their bytes. A call that writes one row leaves every other row of the list.
 use Rattle.std.proofs.Common.{ℕ, zero, suc, ◌≡◌, ◌≢◌, ◌<◌, ◌==◌, List, [], ◌∷◌, length, set, slice_get, Bool, true, false, cond, true≢false, Option, Some, None, option_map, box_value, refl, sym, ap, ◌∙◌, arith, nat_lt, bytes_eq, eq-eqb, ne_eqb}
 use mathlib.Core.Logic.{dite}
 use native.Mathlib.Decide.{ℕ_discrete}
@@ -12,9 +12,8 @@ use Rattle.wiki_model.specs.declared.Put.{Put}
 use Rattle.wiki_model.specs.Titles.{Title}
 use Rattle.wiki_model.specs.Cache.{Cached, not_below, is_held}
 use Rattle.wan_value.specs.declared.Value.{Value}
-use Rattle.slot_cache.specs.declared.slot_row.KeyedValue.{KeyedValue}
 use Rattle.slot_cache.specs.declared.slot_row.SlotRow.{SlotRow}
-use Rattle.slot_cache.specs.SlotRow.{value_for, IsKeyed, Stores}
+use Rattle.slot_cache.specs.SlotRow.{if_same, Stores}
 use Rattle.slot_cache.specs.SlotCache.{StoresIn}
 
 -- Lists of boxes
@@ -45,7 +44,30 @@ same_number a b e = dite (ℕ_discrete a b) (λ s. s) (λ n. absurd (true≢fals
 pub other_number : (a b : ℕ) → (a == b) ≡ false → b ≢ a
 other_number a b e s = true≢false (sym (eq-eqb a b (sym s)) ∙ e)
 
+-- Keys
+
+pub same_key : (kept key : Title) → bytes_eq kept key ≡ true → kept ≡ key
+same_key kept key e = grind (arith, bytes_eq-Decides, e)
+
 module _ {P : Type 0} where
+  -- a row that is the key's shows the key what it has
+  pub own_value : (kept key : Title) (place : Option (Value P)) → kept ≡ key → if_same (bytes_eq kept key) place ≡ place
+  own_value kept key None e = refl
+  own_value kept key (Some value) e = by (bytes_eq kept key) refl
+    where
+      by : (b : Bool) → bytes_eq kept key ≡ b → if_same b (Some value) ≡ Some value
+      by true h = refl
+      by false h = absurd (grind (arith, bytes_eq-Decides, e, h))
+
+  -- and no other key
+  pub no_value : (kept key other : Title) (place : Option (Value P)) → kept ≡ key → other ≢ key → if_same (bytes_eq kept other) place ≡ None
+  no_value kept key other None e n = refl
+  no_value kept key other (Some value) e n = by (bytes_eq kept other) refl
+    where
+      by : (b : Bool) → bytes_eq kept other ≡ b → if_same b (Some value) ≡ None
+      by true h = absurd (grind (arith, bytes_eq-Decides, e, h, n))
+      by false h = refl
+
   -- a put into one row is a put into its slot
   pub stored_in : (old : List (Box (SlotRow P))) (default : Box (SlotRow P)) (before after : SlotRow P) (slot : ℕ) (key : Title) (value : Value P) (answer : Put)
       → slot < length old → before ≡ (get_or old slot default).value → Stores before after key value answer
@@ -58,24 +80,6 @@ module _ {P : Type 0} where
     stores = s;
     others = λ i n. got_other old slot i (with_value (get_or old slot default) after) n;
   }
-
-  -- a place that was filled for the key has its value
-  pub own_value : (place : Option (KeyedValue P)) (key : Title) (value : Value P) → IsKeyed place key value → value_for place key ≡ Some value
-  own_value None key value h = absurd h
-  own_value (Some keyed) key value h = by (bytes_eq keyed.key key) refl
-    where
-      by : (b : Bool) → bytes_eq keyed.key key ≡ b → cond b (Some keyed.value) None ≡ Some value
-      by true e = ap Some h.1
-      by false e = absurd (grind (arith, bytes_eq-Decides, e, h))
-
-  -- and no other key's
-  pub no_value : (place : Option (KeyedValue P)) (key other : Title) (value : Value P) → IsKeyed place key value → other ≢ key → value_for place other ≡ None
-  no_value None key other value h n = absurd h
-  no_value (Some keyed) key other value h n = by (bytes_eq keyed.key other) refl
-    where
-      by : (b : Bool) → bytes_eq keyed.key other ≡ b → cond b (Some keyed.value) None ≡ None
-      by true e = absurd (let k = h.0 in grind (arith, bytes_eq-Decides, e, k, n))
-      by false e = refl
 
   -- Main values and the floor
 

@@ -13,7 +13,7 @@ pub record SlotState (P : Type 0) : Type 0 where
   pub slots : ℕ
   -- by slot: until this moment its keys are held off
   pub floors : List ℕ
-  -- by slot: its two places
+  -- by slot: its key and its two places
   pub rows : List (Box (SlotRow P))
   pub template_check : ℕ
   pub message_check : ℕ
@@ -44,7 +44,7 @@ module _ {P : Type 0} where
     -- (4) a hold-off is at most three minutes
     pub short : state.hold_off ≤ hold_off_max
 
-  -- nothing is in any place
+  -- no row has a value
   abbrev pub AreEmpty : List (Box (SlotRow P)) → Type 0
   AreEmpty rows = (slot : ℕ) (row : SlotRow P) → row_in rows slot ≡ Some row → (row.main ≡ None) × (row.interim ≡ None)
 

@@ -1,11 +1,11 @@
 // A title in a place of fixed size.
-ghost use Rattle.std.specs.Prelude.{◌≡◌, length, take, bytes_eq};
+ghost use Rattle.std.specs.Prelude.{◌≡◌, [], length, take, bytes_eq};
 
 use std::marker::Model;
 use wiki_titles::{TITLE_MAX, Title};
 
-/// A copy of a title. It has room for the longest one, so that making it takes no memory: a clone of a title shares the
-/// bytes, but may be refused.
+/// A copy of a title, or of none. It has room for the longest one, so that making it takes no memory: a clone of a
+/// title shares the bytes, but may be refused.
 #[derive(Drop)]
 pub(crate) struct KeyCopy {
     /// The title's bytes, and after them bytes that do not count.
@@ -23,6 +23,16 @@ impl Model for KeyCopy {
 }
 
 impl KeyCopy {
+    /// No title's copy: a title has a byte at least.
+    pub(crate) fn none() -> Self
+        ensures { result ≡ [] }
+    {
+        KeyCopy {
+            bytes: [0; TITLE_MAX],
+            length: 0,
+        }
+    }
+
     pub(crate) fn new(key: &Title) -> Self
         ensures { result ≡ key.now }
     {

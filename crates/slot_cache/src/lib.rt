@@ -3,11 +3,15 @@
 //!
 //! A cache of bounded size has to choose which key goes when a new one comes, and needs memory for each new key. So a
 //! put can be refused, and a purge for which there is no memory has to hold off every title. Here nothing is chosen: a
-//! title's digest names its slot, and the titles of one slot share what lies there. A slot has one floor, one place for
-//! a main and one for an interim value, and each place names the title that it is for. A put takes the place from
-//! whoever had it. A purge of one title drops the slot's main value and holds off all titles of the slot: another of
-//! them may miss once more than it had to, and never shows a page that is too old. Titles of other slots see nothing of
-//! either. Since a place has room for the longest title, `put`, `purge` and `touch` take no memory.
+//! title's digest names its slot, and the titles of one slot share what lies there: one floor, one place for a main and
+//! one for an interim value, and one name of the title whose values they are. A put of another title takes the slot
+//! over. A purge drops the slot's main value and holds off all its titles: another of them may miss once more than it
+//! had to, and never shows a page that is too old. Titles of other slots see nothing of either. Since a slot has room
+//! for the longest title, `put`, `purge` and `touch` take no memory.
+//!
+//! A takeover loses nothing that could still be shown. If an interim value takes the slot over, the slot is held off,
+//! and the main value that was there is older than the floor or the check that hold it. If a main value does, the slot
+//! is free, and the interim value that was there is from before: no later purge or touch lets it pass again.
 //!
 //! `SlotCache` is a `RegionStore`, whose promises and rules are in `wan_cache`; how fresh a value is says `wan_value`.
 //! Each row of the cache lies in a block of its own, so that a cache can hand its slots on by moving one word a slot.

@@ -23,15 +23,16 @@ pub const SLOTS_MIN: u32 = 256;
 pub const SLOTS_MAX: u32 = 65_536;
 
 /// A cache of fixed slots. Two keys are together if they have one slot: they share its floor, and one place each for a
-/// main and an interim value. Keys of other slots stay exactly as they were. Each call costs one digest of its key;
-/// `put`, `purge` and `touch` take no memory, and `put` never answers `Put::Memory` or `Put::Busy`.
+/// main and an interim value, which are those of the key that was put last. Keys of other slots stay exactly as they
+/// were. Each call but `touch` costs one digest of its key, and `look` and `put` one comparison of keys. `put`, `purge`
+/// and `touch` take no memory, and `put` never answers `Put::Memory` or `Put::Busy`.
 #[derive(Drop)]
 pub struct SlotCache<P> {
     /// How many slots there are, `SLOTS_MIN` to `SLOTS_MAX`.
     slots: u32,
     /// By slot: until this moment its keys are held off; 0 before the first purge.
     floors: Vec<Moment>,
-    /// By slot: its two places. Each row lies in a block of its own, which can be moved as one word.
+    /// By slot: its key and its two places. Each row lies in a block of its own, which can be moved as one word.
     rows: Vec<Box<SlotRow<P>>>,
     /// Up to this moment all keys are held off, since a template changed; 0 before the first touch.
     template_check: Moment,
@@ -48,14 +49,30 @@ impl<P> Model for SlotCache<P> {
 
     ghost Value = { SlotState P };
 
-    ghost view = { λ c. record { slots = c.slots; floors = c.floors.items; rows = c.rows.items; template_check = c.template_check; message_check = c.message_check; greatest = c.greatest; hold_off = c.hold_off } };
+    ghost view = { λ c. record {
+      slots = c.slots;
+      floors = c.floors.items;
+      rows = c.rows.items;
+      template_check = c.template_check;
+      message_check = c.message_check;
+      greatest = c.greatest;
+      hold_off = c.hold_off;
+    } };
 
-    ghost invariant = { λ c. IsKept (record { slots = c.slots; floors = c.floors.items; rows = c.rows.items; template_check = c.template_check; message_check = c.message_check; greatest = c.greatest; hold_off = c.hold_off }) };
+    ghost invariant = { λ c. IsKept (record {
+      slots = c.slots;
+      floors = c.floors.items;
+      rows = c.rows.items;
+      template_check = c.template_check;
+      message_check = c.message_check;
+      greatest = c.greatest;
+      hold_off = c.hold_off;
+    }) };
 }
 
 impl<P: Drop> SlotCache<P> {
     /// An empty cache of this many slots, `SLOTS_MIN` to `SLOTS_MAX`, whose purges hold off for this many
-    /// milliseconds, 1 to `HOLD_OFF_MAX`. All memory that the cache ever needs is taken here.
+    /// milliseconds, 1 to `HOLD_OFF_MAX`. All memory that the cache ever needs is taken here: about 400 bytes a slot.
     pub fn new(alloc: Global, slots: u32, hold_off: u64) -> Result<Self, Memory>
         requires some { SLOTS_MIN ≤ slots }
         requires few { slots ≤ SLOTS_MAX }
@@ -92,7 +109,7 @@ impl<P: Drop> RegionStore<P> for SlotCache<P> {
         look_in(&self.rows, slot, key, &times, ask)
     }
 
-    /// Stores a value in its slot. Other slots stay, and so does every floor.
+    /// Stores a value in its key's slot. Other slots stay, and so does every floor.
     fn put(&mut self, key: &Title, value: Value<P>) -> Put
         requires open { (map_of {P = P} self.old).shared ≡ false }
         requires later { (map_of {P = P} self.old).greatest ≤ value.set_at }
@@ -110,7 +127,7 @@ impl<P: Drop> RegionStore<P> for SlotCache<P> {
         put_in(&mut self.rows, slot, key, floor, check, value)
     }
 
-    /// Holds the slot off, and drops its main value. Other slots stay.
+    /// Holds the key's slot off, and drops its main value. Other slots stay.
     fn purge(&mut self, key: &Title, now: Moment)
         requires open { (map_of {P = P} self.old).shared ≡ false }
         requires later { (map_of {P = P} self.old).greatest ≤ now }
@@ -190,12 +207,14 @@ fn look_in<P: Drop>(
     ask: &Ask,
 ) -> Look<P>
     requires { slot < length rows.now }
-    ensures { IsFound result (found_by times.now (ask_of ask.now) (shown (main_for (row_in rows.now slot) key.now)) (shown (interim_for (row_in rows.now slot) key.now))) }
+    ensures { let main = shown (main_for (row_in rows.now slot) key.now) in
+        let interim = shown (interim_for (row_in rows.now slot) key.now) in
+        IsFound result (found_by times.now (ask_of ask.now) main interim) }
 {
     rows[slot].look(key, times, ask)
 }
 
-// Puts the value into this slot.
+// Puts the value into this slot, by its floor and the check.
 fn put_in<P: Drop>(
     rows: &mut Vec<Box<SlotRow<P>>>,
     slot: usize,
@@ -250,7 +269,8 @@ fn drop_main_at<P: Drop>(rows: &mut [Box<SlotRow<P>>], slot: usize)
 // Raises this slot's floor.
 fn raise_floor(floors: &mut Vec<Moment>, slot: usize, until: Moment)
     requires { slot < length floors.old.items }
-    ensures { floors.new.items ≡ slice_set floors.old.items slot (max (slice_index floors.old.items slot) until) }
+    ensures { let raised = max (slice_index floors.old.items slot) until in
+        floors.new.items ≡ slice_set floors.old.items slot raised }
 {
     raise_at(floors, slot, until);
 }
