@@ -1,6 +1,6 @@
 -- How the program ends: its exit status, and what stands in the sink at each end.
 -- A sink that exposes its bytes at the return has what is said here; one that has fallen silent exposes nothing.
-use Rattle.std.specs.Prelude.{◌≡◌, ℕ, ◌⊎◌, ◌≤◌, Bool, true, List, [], ◌++◌, length, reverse, Option, None, Some}
+use Rattle.std.specs.Prelude.{◌≡◌, ℕ, ◌⊎◌, ◌≤◌, Bool, List, [], ◌++◌, length, reverse, Option, None, Some}
 use Rattle.wiki_model.specs.declared.Region.{Region}
 use Rattle.wiki_model.specs.Bytes.{Bytes}
 use Rattle.wiki_model.specs.Titles.{Title}
@@ -12,6 +12,7 @@ use Rattle.wiki_model.specs.Script.{Line, IsScript, IsFirstFault}
 use Rattle.wiki_model.specs.Report.{MakesAll, no_readings, flat, report, report_from}
 use Rattle.wiki_model.specs.Generator.{stirred, summary}
 use Rattle.farm_base.specs.Exposed.{Adds, AddsPrefix, Stays}
+use Rattle.slot_cache.specs.Slots.{same_slot}
 use Rattle.script_runner.specs.Openings.{script_start}
 use Rattle.wiki_cli.specs.Command.{usage_line, read_fault_line, store_fault_line, script_line, not_empty_line}
 use Rattle.wiki_cli.specs.declared.status.Status.{Status}
@@ -27,9 +28,13 @@ exit_number status.StoreFault = 6
 exit_number status.Memory = 7
 exit_number (status.NotEmpty n) = 9
 
--- in the caches of the program any two titles are together
+-- how many slots each cache of a script's farm has
+abbrev pub script_slots : ℕ
+script_slots = 65_536
+
+-- in the caches of the program two titles are together if they have one slot
 abbrev pub together : Region → Title → Title → Bool
-together r a b = true
+together r a b = same_slot script_slots a b
 
 -- the text is written, or a prefix of it if a write failed
 abbrev pub IsWritten : (failed : Type 0) → (old new : Option Bytes) → (text : Bytes) → Type 0

@@ -18,9 +18,9 @@ use crate::command::Command;
 use crate::refuse::{refuse, refuse_line, refuse_not_empty};
 use crate::run_farm::{Ended, STORE_FAULT};
 use crate::run_script::{drill_on, stir_on};
-use crate::script_farm::{Caches, new_caches};
+use crate::script_farm::new_caches;
 use drill_script::{SCRIPT_MAX, ScriptFault, read_script};
-use farm_base::{InputFault, Sink, Source, read_all};
+use farm_base::{InputFault, Memory, Sink, Source, read_all};
 use revision_keeper::{KeepFault, Keeper};
 use script_generator::stir;
 use std::alloc::Global;
@@ -42,10 +42,13 @@ pub fn drill_bytes<K: Keeper + Drop, O: Sink>(
         (Rose (K.faults keeper) (K.faults result.keeper)) result.status }
 {
     match read_script(alloc, bytes) {
-        Ok(script) => {
-            let caches = new_caches(alloc, &script.plan);
-            drill_on(alloc, keeper, script, caches, sink)
-        }
+        Ok(script) => match new_caches(alloc, &script.plan) {
+            Ok(caches) => drill_on(alloc, keeper, script, caches, sink),
+            Err(Memory) => Ended {
+                status: Status::Memory,
+                keeper,
+            },
+        },
         Err(ScriptFault::Line { line }) => Ended {
             status: refuse_line(alloc, sink, line),
             keeper,
@@ -98,10 +101,13 @@ fn stir_bytes<K: Keeper + Drop, O: Sink>(
         (Rose (K.faults keeper) (K.faults result.keeper)) result.status }
 {
     match read_script(alloc, bytes) {
-        Ok(script) => {
-            let caches = new_caches(alloc, &script.plan);
-            stir_on(alloc, keeper, script, caches, steps, sink)
-        }
+        Ok(script) => match new_caches(alloc, &script.plan) {
+            Ok(caches) => stir_on(alloc, keeper, script, caches, steps, sink),
+            Err(Memory) => Ended {
+                status: Status::Memory,
+                keeper,
+            },
+        },
         Err(_) => Ended {
             status: Status::Memory,
             keeper,

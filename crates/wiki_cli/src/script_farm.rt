@@ -1,19 +1,24 @@
 // A farm for a script: opened by its plan over the keeper's history, with two empty caches.
-ghost use Rattle.std.specs.Prelude.{◌≡◌, ◌≤◌, List, IfOk, IfErr};
+ghost use Rattle.std.specs.Prelude.{◌≡◌, ◌*◌, ◌<◌, ◌≤◌, List, IfOk, IfErr};
 ghost use Rattle.wiki_model.specs.declared.Region.TheVariants.{Home, West};
+ghost use Rattle.wiki_model.specs.Limits.{bound_max, hold_off};
+ghost use Rattle.wiki_model.specs.Cache.{IsEmptyCache};
 ghost use Rattle.wiki_model.specs.Script.{Line};
 ghost use Rattle.wiki_model.specs.Report.{no_readings};
-ghost use Rattle.wan_cache.specs.AsModel.{map_of};
+ghost use Rattle.farm_base.specs.AsModel.{bounds_of};
+ghost use Rattle.slot_cache.specs.Slots.{same_slot};
+ghost use Rattle.slot_cache.specs.AsModel.{map_of};
 ghost use Rattle.drill_script.specs.ReadScript.{HasRoom};
 ghost use Rattle.farm_core.specs.NewFarm.{HasNewFault};
 ghost use Rattle.script_runner.specs.Openings.{IsScriptPlan, IsScriptCache, StartsScript};
-ghost use Rattle.wiki_cli.specs.Ends.{together};
+ghost use Rattle.wiki_cli.specs.Ends.{script_slots, together};
 
-use farm_base::{Moment, Readings};
+use farm_base::{Bounds, Memory, Moment, Readings};
 use farm_core::{Farm, FarmPlan, NewFault, Page};
 use revision_keeper::Keeper;
 use std::alloc::Global;
-use wan_cache::{MapCache, RegionStore};
+use slot_cache::SlotCache;
+use wan_cache::RegionStore;
 
 /// The caches of both regions.
 #[derive(Drop)]
@@ -41,17 +46,27 @@ pub fn open_farm<K: Keeper + Drop, S: RegionStore<Page> + Drop>(
     Farm::new(alloc, keeper, plan, home, west, no_readings())
 }
 
-/// Empty caches with room for as many pages as the plan says.
-pub fn new_caches(alloc: Global, plan: &FarmPlan) -> Caches<MapCache<Page>>
+/// Empty caches of as many slots as the plan says.
+pub fn new_caches(alloc: Global, plan: &FarmPlan) -> Result<Caches<SlotCache<Page>>, Memory>
     requires plan { (lines : List Line) × IsScriptPlan plan.now lines }
     requires room { HasRoom plan.now }
-    ensures home { IsScriptCache map_of together Home plan.now result.home }
-    ensures west { IsScriptCache map_of together West plan.now result.west }
+    ensures home { IfOk result (λ caches. IsScriptCache map_of together Home plan.now caches.home) }
+    ensures west { IfOk result (λ caches. IsScriptCache map_of together West plan.now caches.west) }
 {
-    Caches {
-        home: MapCache::new(alloc, plan.home.slots, plan.bounds.hold_off()),
-        west: MapCache::new(alloc, plan.west.slots, plan.bounds.hold_off()),
-    }
+    let home = new_cache(alloc, plan.home.slots, plan.bounds)?;
+    let west = new_cache(alloc, plan.west.slots, plan.bounds)?;
+    Ok(Caches { home, west })
+}
+
+fn new_cache(alloc: Global, slots: u32, bounds: Bounds) -> Result<SlotCache<Page>, Memory>
+    requires slots { slots ≡ script_slots }
+    requires holds { 0 < hold_off (bounds_of bounds) }
+    requires short { hold_off (bounds_of bounds) ≤ 3 * bound_max }
+    ensures empty { IfOk result (λ cache. IsEmptyCache (map_of cache)) }
+    ensures held { IfOk result (λ cache. (map_of cache).hold_off ≡ hold_off (bounds_of bounds)) }
+    ensures together { IfOk result (λ cache. (map_of cache).together ≡ same_slot script_slots) }
+{
+    SlotCache::new(alloc, slots, bounds.hold_off())
 }
 
 /// What both clocks read before the first line of a script that gives readings.
