@@ -1,5 +1,5 @@
 // A store of cached pages with the moment that it is called at.
-ghost use Rattle.std.specs.Prelude.{◌≡◌, ◌≢◌, ◌≤◌};
+ghost use Rattle.std.specs.Prelude.{◌≢◌};
 ghost use Rattle.wiki_model.specs.Cache.{IsEmptyCache};
 
 use crate::setting::value_at;
