@@ -9,9 +9,10 @@
 //! had to, and never shows a page that is too old. Titles of other slots see nothing of either. Since a slot has room
 //! for the longest title, `put`, `purge` and `touch` take no memory.
 //!
-//! A takeover loses nothing that could still be shown. If an interim value takes the slot over, the slot is held off,
-//! and the main value that was there is older than the floor or the check that hold it. If a main value does, the slot
-//! is free, and the interim value that was there is from before: no later purge or touch lets it pass again.
+//! A takeover empties the other place too, and nothing is lost by that. If an interim value takes the slot over, the
+//! slot is held off, so that the main value that was there is older than the floor or the check, and no longer fresh.
+//! If a main value does, the slot is free, so that the interim value that was there is older than this moment, and no
+//! later purge or touch lets it pass.
 //!
 //! `SlotCache` is a `RegionStore`, whose promises and rules are in `wan_cache`; how fresh a value is says `wan_value`.
 //! Each row of the cache lies in a block of its own, so that a cache can hand its slots on by moving one word a slot.

@@ -1,5 +1,5 @@
 // A region's cache of fixed slots.
-ghost use Rattle.std.specs.Prelude.{◌≡◌, ◌≢◌, ◌<◌, ◌≤◌, ◌+◌, ℕ, length, slice_get, slice_index, slice_set, max, false, IfOk, Some, replicate};
+ghost use Rattle.std.specs.Prelude.{◌≡◌, ◌≢◌, ◌<◌, ◌≤◌, ◌+◌, ℕ, length, slice_index, slice_set, max, false, IfOk, replicate};
 ghost use Rattle.wiki_model.specs.Limits.{greatest_moment};
 ghost use Rattle.wiki_model.specs.Cache.{IsEmptyCache, Puts, Purges, Touches};
 ghost use Rattle.wan_value.specs.AsModel.{value_of, ask_of};
@@ -184,6 +184,7 @@ fn empty_rows<P: Drop>(alloc: Global, slots: u32) -> Result<Vec<Box<SlotRow<P>>>
     ensures length { IfOk result (λ rows. length rows.items ≡ slots) }
     ensures empty { IfOk result (λ rows. AreEmpty rows.items) }
 {
+    // Once there is room for all, only a row's own block can be refused.
     let mut rows = Vec::with_capacity(alloc, slots as usize)?;
     for _ in 0..slots {
         rows.push(Box::new(alloc, SlotRow::new())?)?;

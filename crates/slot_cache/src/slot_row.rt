@@ -1,5 +1,5 @@
 // What is kept for the key that has a slot: look, put, drop the main value.
-ghost use Rattle.std.specs.Prelude.{◌≡◌, [], None, bytes_eq};
+ghost use Rattle.std.specs.Prelude.{◌≡◌, None};
 ghost use Rattle.std.specs.Option.{option_copied};
 ghost use Rattle.wan_value.specs.AsModel.{ask_of};
 ghost use Rattle.wan_cache.specs.Rules.{IsFound, found_by, shown, placed};
@@ -68,7 +68,8 @@ impl<P: Drop> SlotRow<P> {
         put
     }
 
-    // Makes the slot this key's. If it was another's, that one's values go.
+    // Makes the slot this key's. If it was another's, both of that one's values go: the first page says why that is
+    // no loss.
     #[tactic(auto, using(crate::proofs::Rows::same_key))]
     fn give_to(&mut self, key: &Title)
         ensures { IsGivenTo self.old self.new key.now }

@@ -33,8 +33,8 @@ use Rattle.wiki_cli.proofs.Texts.{last_written, fault_written, memory_written, s
 
 module _ {K S : Type 0} (content : K → Option (List Entry)) (faults : K → ℕ) (cache_of : S → CacheMap Bytes)
     (first now : FarmParts K S) (lines : List Line) (after : K) (same : content after ≡ content now.keeper) (up : faults first.keeper ≤ faults now.keeper) where
-  kept : Kept
-  kept = kept_by content faults first.keeper after
+  abbrev pub kept : Kept
+  kept = kept_by content faults after
 
   -- the turns lead to a world whose history the keeper has
   runs_from : (start : World) (text : Bytes) (answers : List Answer) (on : faults now.keeper ≤ faults after) (r : RunSoFar content faults cache_of start now lines text answers) → IsRunFrom start lines kept r.turns r.world
@@ -46,7 +46,7 @@ module _ {K S : Type 0} (content : K → Option (List Entry)) (faults : K → �
   }
 
   -- the keeper's length is that of the last world's history
-  length_is : (start : World) (text : Bytes) (answers : List Answer) (n : ℕ) → IsLength (content now.keeper) (Ok {E = KeepFault} n) → (r : RunSoFar content faults cache_of start now lines text answers) → n ≡ length r.world.history
+  length_is : (start : World) (text : Bytes) (answers : List Answer) (n : ℕ) → IsLength (content now.keeper) (let o : Result ℕ KeepFault = Ok n in o) → (r : RunSoFar content faults cache_of start now lines text answers) → n ≡ length r.world.history
   length_is start text answers n is r = subst (λ (h : Option (List Entry)). IfSome h (λ history. n ≡ length history)) r.stands.agrees.history is
 
   answers_told : (start : World) (text : Bytes) (answers : List Answer) (told : ℕ) → told ≡ length answers → (r : RunSoFar content faults cache_of start now lines text answers) → told ≡ answer_count lines r.turns
@@ -107,22 +107,22 @@ module _ {K S : Type 0} (content : K → Option (List Entry)) (faults : K → �
 
   module _ (steps : ℕ) (summary_now : Summary) (entries : Result ℕ KeepFault) (old new : Option Bytes) (g h : ℕ) (said : Status)
       (c : Counts content faults cache_of first now lines summary_now) (is_length : IsLength (content now.keeper) entries) (cause : HasFault (faults now.keeper) (faults after) entries) where
-    counts_by : (n : ℕ) (s : Status) → IsLength (content now.keeper) (Ok {E = KeepFault} n) → faults now.keeper ≤ faults after → WritesCounts old new g h steps n summary_now s
+    counts_by : (n : ℕ) (s : Status) → IsLength (content now.keeper) (let o : Result ℕ KeepFault = Ok n in o) → faults now.keeper ≤ faults after → WritesCounts old new g h steps n summary_now s
         → (start w : World) → Stands content faults cache_of first start [] w → EndsSummary (IsSummaryFrom start steps lines kept) (Rose g h) old new s
     counts_by n status.Ok is on writes start w stands = let r = c.run start w stands in (summary_of steps n c.answers, counts_whole start steps summary_now n c on r (length_is start c.text c.answers n is r), writes c.answers c.counted)
     counts_by n status.WriteFault is on writes start w stands = let r = c.run start w stands in (summary_of steps n c.answers, counts_whole start steps summary_now n c on r (length_is start c.text c.answers n is r), writes.0 c.answers c.counted)
     counts_by n status.Memory is on writes start w stands = subst (λ (o : Option Bytes). Stays old o) (sym writes) (stays_same old)
-    counts_by n status.Usage is on no start w stands = absurd no
-    counts_by n (status.Script k) is on no start w stands = absurd no
-    counts_by n status.ReadFault is on no start w stands = absurd no
-    counts_by n status.StoreFault is on no start w stands = absurd no
-    counts_by n (status.NotEmpty k) is on no start w stands = absurd no
+    counts_by n status.Usage is on wrong start w stands = absurd wrong
+    counts_by n (status.Script k) is on wrong start w stands = absurd wrong
+    counts_by n status.ReadFault is on wrong start w stands = absurd wrong
+    counts_by n status.StoreFault is on wrong start w stands = absurd wrong
+    counts_by n (status.NotEmpty k) is on wrong start w stands = absurd wrong
 
     summary_by : (result : Result ℕ KeepFault) → IsLength (content now.keeper) result → HasFault (faults now.keeper) (faults after) result → WritesSummary steps summary_now result old new g h said
         → (start w : World) → Stands content faults cache_of first start [] w → EndsSummary (IsSummaryFrom start steps lines kept) (Rose g h) old new said
     summary_by (Ok n) is why writes = counts_by n said is why.later writes
-    summary_by (Err keep.Fault) is why (fault, written) start w stands = subst (λ (s : Status). EndsSummary (IsSummaryFrom start steps lines kept) (Rose g h) old new s) (sym fault) written
-    summary_by (Err keep.Memory) is why (memory, stays) start w stands = subst (λ (s : Status). EndsSummary (IsSummaryFrom start steps lines kept) (Rose g h) old new s) (sym memory) (subst (λ (o : Option Bytes). Stays old o) (sym stays) (stays_same old))
+    summary_by (Err keep.Fault) is why (fault, written) = λ start w stands. subst (λ (s : Status). EndsSummary (IsSummaryFrom start steps lines kept) (Rose g h) old new s) (sym fault) written
+    summary_by (Err keep.Memory) is why (memory, stays) = λ start w stands. subst (λ (s : Status). EndsSummary (IsSummaryFrom start steps lines kept) (Rose g h) old new s) (sym memory) (subst (λ (o : Option Bytes). Stays old o) (sym stays) (stays_same old))
 
     pub summary_ends : WritesSummary steps summary_now entries old new g h said
         → (start w : World) → Stands content faults cache_of first start [] w → EndsSummary (IsSummaryFrom start steps lines kept) (Rose g h) old new said

@@ -8,7 +8,7 @@ use Rattle.wiki_model.specs.Limits.{seed_limit, steps_max}
 use Rattle.wiki_model.specs.Commands.{IsCommand}
 use Rattle.drill_script.specs.Words.{number_of}
 use Rattle.drill_script.proofs.WordsExact.{number_read, number_said}
-use Rattle.wiki_cli.specs.Command.{word_texts, command_of, AreWordsOf, ReadsCommand, drill_in, stir_in, stir_numbers, command_in}
+use Rattle.wiki_cli.specs.Command.{word_texts, command_of, AreWordsOf, ReadsCommand, drill_in, stir_in, stir_numbers, command_by, command_in}
 use Rattle.wiki_cli.specs.declared.command.Command.{Command}
 use Rattle.wiki_cli.specs.declared.command.Command.TheVariants as command
 
@@ -56,9 +56,16 @@ read texts (command.Stir seed steps) (few, most, e) =
     let b : number_of steps_max (decimal steps) ≡ Some steps = number_read steps steps_max most (omega arith) in
     ap command_in e ∙ ap (λ s. stir_numbers s (number_of steps_max (decimal steps))) a ∙ ap (λ n. stir_numbers (Some seed) n) b
 
-pub read_so : (result : Option Command) (words : List (String Global)) → result ≡ command_in (word_texts words) → ReadsCommand result words
-read_so None words e = λ c is. none-some c (e ∙ read (word_texts words) c is)
-read_so (Some c) words e = said (word_texts words) c (sym e)
+by_texts : (words : List (String Global)) → command_by words ≡ command_in (word_texts words)
+by_texts [] = refl
+by_texts (word ∷ []) = refl
+by_texts (word ∷ seed ∷ []) = refl
+by_texts (word ∷ seed ∷ steps ∷ []) = refl
+by_texts (word ∷ seed ∷ steps ∷ more ∷ rest) = refl
+
+pub read_so : (result : Option Command) (words : List (String Global)) → result ≡ command_by words → ReadsCommand result words
+read_so None words e = λ c is. none-some c (e ∙ by_texts words ∙ read (word_texts words) c is)
+read_so (Some c) words e = said (word_texts words) c (sym (e ∙ by_texts words))
 
 -- words are never those of two commands
 pub one_command : (words : List (String Global)) (a b : Command) → AreWordsOf a words → AreWordsOf b words → a ≡ b

@@ -2,3 +2,5 @@ pub mod CommandWords
 pub mod Texts
 pub mod Closing
 pub mod RunEnds
+pub mod Scripts
+pub mod Farms

@@ -43,6 +43,11 @@ stir_in word seed steps =
     then stir_numbers (number_of (seed_limit - 1) seed) (number_of steps_max steps)
     else None
 
+abbrev pub command_by : List (String Global) → Option Command
+command_by (word ∷ []) = drill_in (string_bytes word)
+command_by (word ∷ seed ∷ steps ∷ []) = stir_in (string_bytes word) (string_bytes seed) (string_bytes steps)
+command_by _ = None
+
 -- the command of these texts
 abbrev pub command_in : List Bytes → Option Command
 command_in (word ∷ []) = drill_in word

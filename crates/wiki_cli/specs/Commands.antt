@@ -46,9 +46,9 @@ IsCommandEnd (status.NotEmpty n) = Unit {0}
 IsCommandEnd said = IsSourceEnd said
 
 -- What is written of a script's counts, by its bytes.
-abbrev pub CountsScript : (input : Bytes) → (steps : ℕ) → Kept → (failed : Type 0) → (old now : Option Bytes) → Status → Type 0
-CountsScript input steps kept failed old now said =
-    EndsSummary (λ text. OfScript input kept (λ start lines. IsSummaryFrom start steps lines kept text)) failed old now said
+abbrev pub CountsScript : (input : Bytes) → (steps faults_before : ℕ) → Kept → (failed : Type 0) → (old now : Option Bytes) → Status → Type 0
+CountsScript input steps before kept failed old now said =
+    EndsSummary (λ text. OfScript input before (λ start lines. IsSummaryFrom start steps lines kept text)) failed old now said
 
 -- the numbers of a command are within their limits
 abbrev pub IsAllowed : Command → Type 0

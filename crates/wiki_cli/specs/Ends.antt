@@ -50,10 +50,9 @@ Says failed old new _ = Unit {0}
 
 -- Runs of scripts
 
--- The history and the count of faults of a keeper after a call, and the count before it.
+-- What a keeper shows of itself after a call: its history, if it exposes that, and its count of faults.
 pub record Kept : Type 0 where
   pub history : Option (List Entry)
-  pub faults_before : ℕ
   pub faults : ℕ
 
 -- The turns are those of these lines, and lead from the start to a last world, whose history is then the keeper's.
@@ -86,21 +85,21 @@ pub record IsSummaryFrom (start : World) (steps : ℕ) (lines : List Line) (kept
   pub text_is : text ≡ summary steps lines turns (length last.history)
 
 -- The bytes are a script, of which a claim is made from its start. `began` is what the keeper had counted then.
-pub record OfScript (input : Bytes) (kept : Kept) (Claim : World → List Line → Type 0) : Type 0 where
+pub record OfScript (input : Bytes) (faults_before : ℕ) (Claim : World → List Line → Type 0) : Type 0 where
   pub lines : List Line
   pub began : ℕ
   pub is_script : IsScript lines input
-  pub since : kept.faults_before ≤ began
+  pub since : faults_before ≤ began
   pub claim : Claim (script_start together lines began) lines
 
-abbrev pub IsReportOf : (input : Bytes) → Kept → (text : Bytes) → Type 0
-IsReportOf input kept text = OfScript input kept (λ start lines. IsReportFrom start lines kept text)
+abbrev pub IsReportOf : (input : Bytes) → (faults_before : ℕ) → Kept → (text : Bytes) → Type 0
+IsReportOf input before kept text = OfScript input before (λ start lines. IsReportFrom start lines kept text)
 
-abbrev pub IsCutReportOf : (input : Bytes) → Kept → (text : Bytes) → Type 0
-IsCutReportOf input kept text = OfScript input kept (λ start lines. IsCutReportFrom start lines kept text)
+abbrev pub IsCutReportOf : (input : Bytes) → (faults_before : ℕ) → Kept → (text : Bytes) → Type 0
+IsCutReportOf input before kept text = OfScript input before (λ start lines. IsCutReportFrom start lines kept text)
 
-abbrev pub IsSummaryOf : (seed steps : ℕ) → Kept → (text : Bytes) → Type 0
-IsSummaryOf seed steps kept text = OfScript (stirred seed steps) kept (λ start lines. IsSummaryFrom start steps lines kept text)
+abbrev pub IsSummaryOf : (seed steps : ℕ) → (faults_before : ℕ) → Kept → (text : Bytes) → Type 0
+IsSummaryOf seed steps before kept text = OfScript (stirred seed steps) before (λ start lines. IsSummaryFrom start steps lines kept text)
 
 -- such a text is written, or a prefix of it
 abbrev pub Writes : (Is Writes : Bytes → Type 0) → Type 0
@@ -118,8 +117,9 @@ EndsReport Whole Cut failed old new (status.NotEmpty n) = ⊥
 EndsReport Whole Cut failed old new _ = Unit {0}
 
 -- What `drill` makes of a script's bytes over a keeper whose history is empty.
-abbrev pub Drills : (input : Bytes) → Kept → (failed : Type 0) → (old new : Option Bytes) → Status → Type 0
-Drills input kept failed old new said = EndsReport (IsReportOf input kept) (IsCutReportOf input kept) failed old new said
+abbrev pub Drills : (input : Bytes) → (faults_before : ℕ) → Kept → (failed : Type 0) → (old new : Option Bytes) → Status → Type 0
+Drills input before kept failed old new said =
+    EndsReport (IsReportOf input before kept) (IsCutReportOf input before kept) failed old new said
 
 -- What is written of the counts of a run, by its end.
 abbrev pub EndsSummary : (Whole : Bytes → Type 0) → (failed : Type 0) → (old new : Option Bytes) → Status → Type 0
@@ -130,8 +130,8 @@ EndsSummary Whole failed old new status.StoreFault = IsWritten failed old new st
 EndsSummary Whole failed old new _ = ⊥
 
 -- What `stir` makes of a seed and a number of steps over such a keeper.
-abbrev pub Stirs : (seed steps : ℕ) → Kept → (failed : Type 0) → (old new : Option Bytes) → Status → Type 0
-Stirs seed steps kept failed old new said = EndsSummary (IsSummaryOf seed steps kept) failed old new said
+abbrev pub Stirs : (seed steps : ℕ) → (faults_before : ℕ) → Kept → (failed : Type 0) → (old new : Option Bytes) → Status → Type 0
+Stirs seed steps before kept failed old new said = EndsSummary (IsSummaryOf seed steps before kept) failed old new said
 
 -- a script whose first faulty line this is
 abbrev pub IsRefusedBy : (input : Bytes) → Status → Type 0

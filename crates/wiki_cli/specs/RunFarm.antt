@@ -20,8 +20,8 @@ use Rattle.wiki_cli.specs.declared.status.Status.{Status}
 use Rattle.wiki_cli.specs.declared.status.Status.TheVariants as status
 
 -- the keeper that is left, as it exposes itself
-abbrev pub kept_by : {K : Type 0} → (K → Option (List Entry)) → (K → ℕ) → (before after : K) → Kept
-kept_by content faults before after = record { history = content after; faults_before = faults before; faults = faults after }
+abbrev pub kept_by : {K : Type 0} → (K → Option (List Entry)) → (K → ℕ) → K → Kept
+kept_by content faults keeper = record { history = content keeper; faults = faults keeper }
 
 -- how a run may end
 abbrev pub IsRunEnd : Status → Type 0
@@ -31,10 +31,11 @@ IsRunEnd status.StoreFault = Unit {0}
 IsRunEnd status.Memory = Unit {0}
 IsRunEnd _ = ⊥
 
-abbrev pub status_of : ReportState → Status
-status_of state.Whole = status.Ok
-status_of state.Failed = status.WriteFault
-status_of state.Memory = status.Memory
+-- a text is written, or a prefix of it
+abbrev pub WritesText : (old new : Option Bytes) → (faults_before faults_now : ℕ) → (text : Bytes) → Status → Type 0
+WritesText old new before now text status.Ok = Adds old new text × (before ≤ now)
+WritesText old new before now text status.WriteFault = AddsPrefix old new text × Rose before now
+WritesText old new before now text _ = ⊥
 
 -- a text is written after a report that is whole; a report that is not stays as it is
 abbrev pub WritesLast : (before : ReportState) → (old new : Option Bytes) → (faults_before faults_now : ℕ) → (text : Bytes) → Status → Type 0

@@ -1,7 +1,7 @@
 // The command words.
 ghost use Rattle.std.specs.Prelude.{◌≡◌, ◌≤◌, IfSome};
 ghost use Rattle.drill_script.specs.Words.{number_of};
-ghost use Rattle.wiki_cli.specs.Command.{ReadsCommand, drill_in, stir_in};
+ghost use Rattle.wiki_cli.specs.Command.{ReadsCommand, command_by, drill_in, stir_in};
 
 use drill_script::number_of;
 
@@ -25,8 +25,15 @@ pub enum Command {
 }
 
 /// The command of these words, if they are one. It takes no memory.
+#[tactic(auto, using(crate::proofs::CommandWords::read_so))]
 pub fn read_command(words: &[String]) -> Option<Command>
     ensures { ReadsCommand result words.now }
+{
+    command_by(words)
+}
+
+fn command_by(words: &[String]) -> Option<Command>
+    ensures { result ≡ command_by words.now }
 {
     match words {
         [word] => read_drill(word.as_str()),

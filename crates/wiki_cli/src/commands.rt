@@ -32,7 +32,7 @@ pub fn drill_bytes<K: Keeper + Drop, O: Sink>(
     keeper: K,
     sink: &mut O,
 ) -> Ended<K>
-    ensures drills { K.content keeper ≡ Some [] → Drills bytes.now (kept_by K.content K.faults keeper result.keeper)
+    ensures drills { K.content keeper ≡ Some [] → Drills bytes.now (K.faults keeper) (kept_by K.content K.faults result.keeper)
         (Rose (O.faults sink.old) (O.faults sink.new)) (O.written sink.old) (O.written sink.new) result.status }
     ensures refused { IsRefusedBy bytes.now result.status }
     ensures says { Says (Rose (O.faults sink.old) (O.faults sink.new))
@@ -70,7 +70,7 @@ pub fn stir_keeper<K: Keeper + Drop, O: Sink>(
 ) -> Ended<K>
     requires seed { seed < seed_limit }
     requires steps { steps ≤ steps_max }
-    ensures stirs { K.content keeper ≡ Some [] → Stirs seed steps (kept_by K.content K.faults keeper result.keeper)
+    ensures stirs { K.content keeper ≡ Some [] → Stirs seed steps (K.faults keeper) (kept_by K.content K.faults result.keeper)
         (Rose (O.faults sink.old) (O.faults sink.new)) (O.written sink.old) (O.written sink.new) result.status }
     ensures end { IsRunEnd result.status }
     ensures cause { HasRisen (Rose (O.faults sink.old) (O.faults sink.new))
@@ -94,7 +94,7 @@ fn stir_bytes<K: Keeper + Drop, O: Sink>(
     sink: &mut O,
 ) -> Ended<K>
     requires script { (lines : List Line) × IsScript lines bytes.now }
-    ensures stirs { K.content keeper ≡ Some [] → CountsScript bytes.now steps (kept_by K.content K.faults keeper result.keeper)
+    ensures stirs { K.content keeper ≡ Some [] → CountsScript bytes.now steps (K.faults keeper) (kept_by K.content K.faults result.keeper)
         (Rose (O.faults sink.old) (O.faults sink.new)) (O.written sink.old) (O.written sink.new) result.status }
     ensures end { IsRunEnd result.status }
     ensures cause { HasRisen (Rose (O.faults sink.old) (O.faults sink.new))
@@ -123,7 +123,7 @@ pub fn drill_source<I: Source, K: Keeper + Drop, O: Sink>(
     sink: &mut O,
 ) -> Ended<K>
     ensures drills { IfSome (I.left source.old) (λ input. K.content keeper ≡ Some [] → Drills input
-        (kept_by K.content K.faults keeper result.keeper)
+        (K.faults keeper) (kept_by K.content K.faults result.keeper)
         (Rose (O.faults sink.old) (O.faults sink.new)) (O.written sink.old) (O.written sink.new) result.status) }
     ensures refused { IfSome (I.left source.old) (λ input. IsRefusedBy input result.status) }
     ensures says { Says (Rose (O.faults sink.old) (O.faults sink.new))
@@ -167,11 +167,11 @@ pub fn perform<I: Source, K: Keeper + Drop, O: Sink>(
 ) -> Ended<K>
     requires command { IsAllowed command }
     ensures drills { command ≡ Drill → IfSome (I.left source.old) (λ input. K.content keeper ≡ Some [] → Drills input
-        (kept_by K.content K.faults keeper result.keeper)
+        (K.faults keeper) (kept_by K.content K.faults result.keeper)
         (Rose (O.faults sink.old) (O.faults sink.new)) (O.written sink.old) (O.written sink.new) result.status) }
     ensures refused { IfSome (I.left source.old) (λ input. IsRefusedBy input result.status) }
     ensures stirs { (seed steps : ℕ) → command ≡ Stir seed steps → K.content keeper ≡ Some [] → Stirs seed steps
-        (kept_by K.content K.faults keeper result.keeper)
+        (K.faults keeper) (kept_by K.content K.faults result.keeper)
         (Rose (O.faults sink.old) (O.faults sink.new)) (O.written sink.old) (O.written sink.new) result.status }
     ensures not_empty { IfSome (K.content keeper) (λ history. IsNotEmpty history result.status) }
     ensures entries { IfSome (K.content keeper) (λ history. CountsEntries history result.status) }
@@ -210,11 +210,11 @@ fn perform_on_empty<I: Source, K: Keeper + Drop, O: Sink>(
 ) -> Ended<K>
     requires command { IsAllowed command }
     ensures drills { command ≡ Drill → IfSome (I.left source.old) (λ input. K.content keeper ≡ Some [] → Drills input
-        (kept_by K.content K.faults keeper result.keeper)
+        (K.faults keeper) (kept_by K.content K.faults result.keeper)
         (Rose (O.faults sink.old) (O.faults sink.new)) (O.written sink.old) (O.written sink.new) result.status) }
     ensures refused { IfSome (I.left source.old) (λ input. IsRefusedBy input result.status) }
     ensures stirs { (seed steps : ℕ) → command ≡ Stir seed steps → K.content keeper ≡ Some [] → Stirs seed steps
-        (kept_by K.content K.faults keeper result.keeper)
+        (K.faults keeper) (kept_by K.content K.faults result.keeper)
         (Rose (O.faults sink.old) (O.faults sink.new)) (O.written sink.old) (O.written sink.new) result.status }
     ensures says { Says (Rose (O.faults sink.old) (O.faults sink.new))
         (O.written sink.old) (O.written sink.new) result.status }

@@ -65,14 +65,14 @@ where
     // prefix of it if a write failed or memory ran out.
     ensures drill { AreWordsOf Drill words.now → IfSome (I.left outside.old.source) (λ input.
         OfKeepers outside.old.keeper outside.new.keeper (λ before after. K.content before ≡ Some []
-        → Drills input (kept_by K.content K.faults before after)
+        → Drills input (K.faults before) (kept_by K.content K.faults after)
         (Rose (O.faults outside.old.sink) (O.faults outside.new.sink))
         (O.written outside.old.sink) (O.written outside.new.sink) result)) }
 
     // What is written counts the answers of a run of the script that the numbers make.
     ensures stir { (seed steps : ℕ) → AreWordsOf (Stir seed steps) words.now
         → OfKeepers outside.old.keeper outside.new.keeper (λ before after. K.content before ≡ Some []
-        → Stirs seed steps (kept_by K.content K.faults before after)
+        → Stirs seed steps (K.faults before) (kept_by K.content K.faults after)
         (Rose (O.faults outside.old.sink) (O.faults outside.new.sink))
         (O.written outside.old.sink) (O.written outside.new.sink) result) }
 
@@ -146,14 +146,14 @@ where
     // prefix of it if a write failed or memory ran out.
     ensures drill { AreWordsOf Drill words.now → IfSome (I.left outside.old.source) (λ input.
         OfKeepers outside.old.keeper outside.new.keeper (λ before after. K.content before ≡ Some []
-        → Drills input (kept_by K.content K.faults before after)
+        → Drills input (K.faults before) (kept_by K.content K.faults after)
         (Rose (O.faults outside.old.sink) (O.faults outside.new.sink))
         (O.written outside.old.sink) (O.written outside.new.sink) result)) }
 
     // What is written counts the answers of a run of the script that the numbers make.
     ensures stir { (seed steps : ℕ) → AreWordsOf (Stir seed steps) words.now
         → OfKeepers outside.old.keeper outside.new.keeper (λ before after. K.content before ≡ Some []
-        → Stirs seed steps (kept_by K.content K.faults before after)
+        → Stirs seed steps (K.faults before) (kept_by K.content K.faults after)
         (Rose (O.faults outside.old.sink) (O.faults outside.new.sink))
         (O.written outside.old.sink) (O.written outside.new.sink) result) }
 

@@ -7,15 +7,15 @@ ghost use Rattle.drill_script.specs.ReadScript.{lines_of};
 ghost use Rattle.farm_core.specs.Runs.{Stands};
 ghost use Rattle.script_runner.specs.RunScript.{IsRunnable};
 ghost use Rattle.wiki_cli.specs.Ends.{IsReportFrom, IsCutReportFrom, IsSummaryFrom, EndsReport, EndsSummary, HasRisen};
-ghost use Rattle.wiki_cli.specs.RunFarm.{kept_by, status_of, WritesLast, FailsReport, ClosesReport, WritesCounts, WritesSummary, IsRunEnd};
+ghost use Rattle.wiki_cli.specs.RunFarm.{kept_by, WritesText, WritesLast, FailsReport, ClosesReport, WritesCounts, WritesSummary, IsRunEnd};
 
 use crate::Status;
 use crate::refuse::refuse;
 use drill_script::{ScriptLine, Summary, end_line, summary_line};
-use farm_base::{Listed, Sink};
+use farm_base::{Listed, Sink, write_all};
 use farm_core::{Farm, Page};
 use revision_keeper::{KeepFault, Keeper};
-use script_runner::{ReportState, Told, count_script, report_script, write_part};
+use script_runner::{ReportState, Told, count_script, report_script};
 use std::alloc::Global;
 use wan_cache::RegionStore;
 
@@ -38,8 +38,8 @@ pub fn report_farm<K: Keeper + Drop, S: RegionStore<Page> + Drop, O: Sink>(
 ) -> Ended<K>
     requires runnable { IsRunnable farm (lines_of lines) }
     ensures ends { (start w : World) → Stands K.content K.faults S.cache farm start [] w
-        → EndsReport (IsReportFrom start (lines_of lines) (kept_by K.content K.faults farm.keeper result.keeper))
-        (IsCutReportFrom start (lines_of lines) (kept_by K.content K.faults farm.keeper result.keeper))
+        → EndsReport (IsReportFrom start (lines_of lines) (kept_by K.content K.faults result.keeper))
+        (IsCutReportFrom start (lines_of lines) (kept_by K.content K.faults result.keeper))
         (Rose (O.faults sink.old) (O.faults sink.new)) (O.written sink.old) (O.written sink.new) result.status }
     ensures end { IsRunEnd result.status }
     ensures cause { HasRisen (Rose (O.faults sink.old) (O.faults sink.new))
@@ -77,10 +77,11 @@ fn write_end<O: Sink>(alloc: Global, sink: &mut O, told: Told, entries: u64) -> 
 {
     match told.state {
         ReportState::Whole => match end_line(alloc, told.answers, entries) {
-            Ok(text) => status_of(write_part(sink, &text)),
+            Ok(text) => write_text(sink, &text),
             Err(_) => Status::Memory,
         },
-        other => status_of(other),
+        ReportState::Failed => Status::WriteFault,
+        ReportState::Memory => Status::Memory,
     }
 }
 
@@ -95,14 +96,13 @@ fn write_fault<O: Sink>(sink: &mut O, state: ReportState) -> Status
     }
 }
 
-/// How a command ends whose text is written so far.
-fn status_of(state: ReportState) -> Status
-    ensures { result ≡ status_of state }
+/// Writes a text to its end, if no write fails.
+fn write_text<O: Sink>(sink: &mut O, text: &[u8]) -> Status
+    ensures { WritesText (O.written sink.old) (O.written sink.new) (O.faults sink.old) (O.faults sink.new) text.now result }
 {
-    match state {
-        ReportState::Whole => Status::Ok,
-        ReportState::Failed => Status::WriteFault,
-        ReportState::Memory => Status::Memory,
+    match write_all(sink, text) {
+        Ok(()) => Status::Ok,
+        Err(_) => Status::WriteFault,
     }
 }
 
@@ -116,7 +116,7 @@ pub fn count_farm<K: Keeper + Drop, S: RegionStore<Page> + Drop, O: Sink>(
 ) -> Ended<K>
     requires runnable { IsRunnable farm (lines_of lines) }
     ensures ends { (start w : World) → Stands K.content K.faults S.cache farm start [] w
-        → EndsSummary (IsSummaryFrom start steps (lines_of lines) (kept_by K.content K.faults farm.keeper result.keeper))
+        → EndsSummary (IsSummaryFrom start steps (lines_of lines) (kept_by K.content K.faults result.keeper))
         (Rose (O.faults sink.old) (O.faults sink.new)) (O.written sink.old) (O.written sink.new) result.status }
     ensures end { IsRunEnd result.status }
     ensures cause { HasRisen (Rose (O.faults sink.old) (O.faults sink.new))
@@ -159,7 +159,7 @@ fn write_summary<O: Sink>(
         steps entries summary result }
 {
     match summary_line(alloc, steps, entries, &summary) {
-        Ok(text) => status_of(write_part(sink, &text)),
+        Ok(text) => write_text(sink, &text),
         Err(_) => Status::Memory,
     }
 }

@@ -1,19 +1,16 @@
 // A farm for a script: opened by its plan over the keeper's history, with two empty caches.
-ghost use Rattle.std.specs.Prelude.{◌≡◌, ◌*◌, ◌<◌, ◌≤◌, List, IfOk, IfErr};
+ghost use Rattle.std.specs.Prelude.{◌≡◌, ◌≤◌, List, IfOk, IfErr};
 ghost use Rattle.wiki_model.specs.declared.Region.TheVariants.{Home, West};
-ghost use Rattle.wiki_model.specs.Limits.{bound_max, hold_off};
-ghost use Rattle.wiki_model.specs.Cache.{IsEmptyCache};
+ghost use Rattle.wiki_model.specs.declared.Region.{Region};
 ghost use Rattle.wiki_model.specs.Script.{Line};
 ghost use Rattle.wiki_model.specs.Report.{no_readings};
-ghost use Rattle.farm_base.specs.AsModel.{bounds_of};
-ghost use Rattle.slot_cache.specs.Slots.{same_slot};
 ghost use Rattle.slot_cache.specs.AsModel.{map_of};
 ghost use Rattle.drill_script.specs.ReadScript.{HasRoom};
 ghost use Rattle.farm_core.specs.NewFarm.{HasNewFault};
 ghost use Rattle.script_runner.specs.Openings.{IsScriptPlan, IsScriptCache, StartsScript};
 ghost use Rattle.wiki_cli.specs.Ends.{script_slots, together};
 
-use farm_base::{Bounds, Memory, Moment, Readings};
+use farm_base::{Memory, Moment, Readings};
 use farm_core::{Farm, FarmPlan, NewFault, Page};
 use revision_keeper::Keeper;
 use std::alloc::Global;
@@ -53,20 +50,17 @@ pub fn new_caches(alloc: Global, plan: &FarmPlan) -> Result<Caches<SlotCache<Pag
     ensures home { IfOk result (λ caches. IsScriptCache map_of together Home plan.now caches.home) }
     ensures west { IfOk result (λ caches. IsScriptCache map_of together West plan.now caches.west) }
 {
-    let home = new_cache(alloc, plan.home.slots, plan.bounds)?;
-    let west = new_cache(alloc, plan.west.slots, plan.bounds)?;
+    let home = new_cache(alloc, plan, plan.home.slots)?;
+    let west = new_cache(alloc, plan, plan.west.slots)?;
     Ok(Caches { home, west })
 }
 
-fn new_cache(alloc: Global, slots: u32, bounds: Bounds) -> Result<SlotCache<Page>, Memory>
+fn new_cache(alloc: Global, plan: &FarmPlan, slots: u32) -> Result<SlotCache<Page>, Memory>
+    requires plan { (lines : List Line) × IsScriptPlan plan.now lines }
     requires slots { slots ≡ script_slots }
-    requires holds { 0 < hold_off (bounds_of bounds) }
-    requires short { hold_off (bounds_of bounds) ≤ 3 * bound_max }
-    ensures empty { IfOk result (λ cache. IsEmptyCache (map_of cache)) }
-    ensures held { IfOk result (λ cache. (map_of cache).hold_off ≡ hold_off (bounds_of bounds)) }
-    ensures together { IfOk result (λ cache. (map_of cache).together ≡ same_slot script_slots) }
+    ensures { IfOk result (λ cache. (r : Region) → IsScriptCache map_of together r plan.now cache) }
 {
-    SlotCache::new(alloc, slots, bounds.hold_off())
+    SlotCache::new(alloc, slots, plan.bounds.hold_off())
 }
 
 /// What both clocks read before the first line of a script that gives readings.
