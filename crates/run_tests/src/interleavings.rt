@@ -1,11 +1,9 @@
 // The interleavings of docs/INTERLEAVINGS.md, and a script that gets every answer: the scripts of examples/.
-use crate::running::reports;
-use revision_keeper::MemKeeper;
+use crate::setting::assert_report;
 use std::test::Fail;
 
 #[test]
 fn a_late_commit_is_purged_again(rt: HostRuntime) -> Result<(), Fail> {
-    let keeper = MemKeeper::new(rt.alloc());
     let script = "\
 edit 1 t1 A 0 one
 apply home 0 1
@@ -44,12 +42,11 @@ end
 <p>two</p>
 end answers=5 entries=3
 ";
-    reports(rt.alloc(), keeper, script, report)
+    assert_report(&rt, rt.alloc(), script, report)
 }
 
 #[test]
 fn a_purge_late_and_repeated(rt: HostRuntime) -> Result<(), Fail> {
-    let keeper = MemKeeper::new(rt.alloc());
     let script = "\
 edit 1 t1 A 0 one
 apply west 0 1
@@ -106,12 +103,11 @@ end
 <p>two</p>
 end answers=8 entries=3
 ";
-    reports(rt.alloc(), keeper, script, report)
+    assert_report(&rt, rt.alloc(), script, report)
 }
 
 #[test]
 fn a_purge_lost(rt: HostRuntime) -> Result<(), Fail> {
-    let keeper = MemKeeper::new(rt.alloc());
     let script = "\
 edit 1 t1 A 0 one
 apply home 0 1
@@ -162,12 +158,11 @@ end
 16 gone message=3
 end answers=8 entries=2
 ";
-    reports(rt.alloc(), keeper, script, report)
+    assert_report(&rt, rt.alloc(), script, report)
 }
 
 #[test]
 fn a_session_in_west(rt: HostRuntime) -> Result<(), Fail> {
-    let keeper = MemKeeper::new(rt.alloc());
     let script = "\
 beat
 apply west 0 1
@@ -190,12 +185,11 @@ end
 <p>one</p>
 end answers=4 entries=2
 ";
-    reports(rt.alloc(), keeper, script, report)
+    assert_report(&rt, rt.alloc(), script, report)
 }
 
 #[test]
 fn every_answer(rt: HostRuntime) -> Result<(), Fail> {
-    let keeper = MemKeeper::new(rt.alloc());
     let script = "\
 view home 2 - 0 A
 edit 1 t1 A 0 one
@@ -257,12 +251,11 @@ end
 <p>one</p>
 end answers=15 entries=2
 ";
-    reports(rt.alloc(), keeper, script, report)
+    assert_report(&rt, rt.alloc(), script, report)
 }
 
 #[test]
 fn skew_inside_the_bounds(rt: HostRuntime) -> Result<(), Fail> {
-    let keeper = MemKeeper::new(rt.alloc());
     let script = "\
 edit 1 t1 A 0 one
 apply west 0 1
@@ -294,12 +287,11 @@ end
 <p>one</p>
 end answers=4 entries=3
 ";
-    reports(rt.alloc(), keeper, script, report)
+    assert_report(&rt, rt.alloc(), script, report)
 }
 
 #[test]
 fn skew_outside_the_bounds(rt: HostRuntime) -> Result<(), Fail> {
-    let keeper = MemKeeper::new(rt.alloc());
     let script = "\
 edit 1 t1 A 0 one
 apply west 0 1
@@ -331,12 +323,11 @@ end
 <p>one</p>
 end answers=4 entries=3
 ";
-    reports(rt.alloc(), keeper, script, report)
+    assert_report(&rt, rt.alloc(), script, report)
 }
 
 #[test]
 fn the_end_of_the_hold_off(rt: HostRuntime) -> Result<(), Fail> {
-    let keeper = MemKeeper::new(rt.alloc());
     let script = "\
 edit 1 t1 A 0 one
 apply home 0 1
@@ -369,12 +360,11 @@ end
 <p>one</p>
 end answers=4 entries=2
 ";
-    reports(rt.alloc(), keeper, script, report)
+    assert_report(&rt, rt.alloc(), script, report)
 }
 
 #[test]
 fn the_race_that_the_hold_off_is_for(rt: HostRuntime) -> Result<(), Fail> {
-    let keeper = MemKeeper::new(rt.alloc());
     let script = "\
 edit 1 t1 A 0 one
 at 20900 20900
@@ -419,12 +409,11 @@ end
 <p>one</p>
 end answers=6 entries=3
 ";
-    reports(rt.alloc(), keeper, script, report)
+    assert_report(&rt, rt.alloc(), script, report)
 }
 
 #[test]
 fn two_overlapping_purges(rt: HostRuntime) -> Result<(), Fail> {
-    let keeper = MemKeeper::new(rt.alloc());
     let script = "\
 edit 1 t1 A 0 one
 at 20000 20000
@@ -466,5 +455,5 @@ end
 <p>one</p>
 end answers=6 entries=4
 ";
-    reports(rt.alloc(), keeper, script, report)
+    assert_report(&rt, rt.alloc(), script, report)
 }

@@ -1,94 +1,9 @@
-// Worked rows: the scripts of checks/rows that say what no test of a single part says.
-use crate::running::reports;
-use revision_keeper::MemKeeper;
+// What a cache keeps and what it shows, at the edges of each rule.
+use crate::setting::assert_report;
 use std::test::Fail;
 
 #[test]
-fn a_cached_page_is_passed_over_for_its_author(rt: HostRuntime) -> Result<(), Fail> {
-    let keeper = MemKeeper::new(rt.alloc());
-    let script = "\
-edit 1 t1 A 0 one
-apply west 0 1
-view west 2 - 0 A
-edit 1 t2 A 1 two
-carry 4
-apply west 0 1
-view west 2 - 0 A
-view west 1 2@0 0 A
-view west 2 - 0 A
-end
-";
-    let report = "\
-1 saved entry=1 revision=1 cookie=1@0
-3 ok source=1 from=replica:0 lagged=0 bytes=55
-<!DOCTYPE html>
-<title>A</title>
-<h1>A</h1>
-<p>one</p>
-4 saved entry=2 revision=2 cookie=2@0
-7 ok source=1 from=hit lagged=0 bytes=55
-<!DOCTYPE html>
-<title>A</title>
-<h1>A</h1>
-<p>one</p>
-8 ok source=2 from=replica:0 lagged=0 bytes=55
-<!DOCTYPE html>
-<title>A</title>
-<h1>A</h1>
-<p>two</p>
-9 ok source=2 from=hit lagged=0 bytes=55
-<!DOCTYPE html>
-<title>A</title>
-<h1>A</h1>
-<p>two</p>
-end answers=6 entries=2
-";
-    reports(rt.alloc(), keeper, script, report)
-}
-
-#[test]
-fn a_page_of_the_older_markup_is_passed_over(rt: HostRuntime) -> Result<(), Fail> {
-    let keeper = MemKeeper::new(rt.alloc());
-    let script = "\
-edit 1 t1 Template:Y 0 yes
-edit 1 t2 Template:X 0 a {{y}} b
-edit 1 t3 A 0 {{x}}
-at 30000 30000
-beat
-apply home 0 4
-view home 2 - 0 A
-markup 2
-view home 2 - 0 A
-view home 2 - 0 A
-end
-";
-    let report = "\
-1 saved entry=1 revision=1 cookie=1@0
-2 saved entry=2 revision=1 cookie=2@0
-3 saved entry=3 revision=1 cookie=3@0
-7 ok source=4 from=replica:0 lagged=0 bytes=61
-<!DOCTYPE html>
-<title>A</title>
-<h1>A</h1>
-<p>a {{y}} b</p>
-9 ok source=4 from=replica:0 lagged=0 bytes=59
-<!DOCTYPE html>
-<title>A</title>
-<h1>A</h1>
-<p>a yes b</p>
-10 ok source=4 from=hit lagged=0 bytes=59
-<!DOCTYPE html>
-<title>A</title>
-<h1>A</h1>
-<p>a yes b</p>
-end answers=6 entries=4
-";
-    reports(rt.alloc(), keeper, script, report)
-}
-
-#[test]
 fn a_template_holds_pages_off_through_its_last_moment(rt: HostRuntime) -> Result<(), Fail> {
-    let keeper = MemKeeper::new(rt.alloc());
     let script = "\
 edit 1 t1 A 0 one
 at 2000 2000
@@ -123,63 +38,103 @@ end
 <p>one</p>
 end answers=5 entries=3
 ";
-    reports(rt.alloc(), keeper, script, report)
+    assert_report(&rt, rt.alloc(), script, report)
 }
 
 #[test]
-fn a_view_waits_for_its_session(rt: HostRuntime) -> Result<(), Fail> {
-    let keeper = MemKeeper::new(rt.alloc());
+fn the_last_moment_of_a_template(rt: HostRuntime) -> Result<(), Fail> {
     let script = "\
 edit 1 t1 A 0 one
-open 1 view west 1 1@0 0 A
-wait 1
-at 4999 4999
-wait 1
-at 5000 5000
-wait 1
-view west 1 1@0+ 0 A
+at 2000 2000
+edit 1 t2 Template:X 0 x
+apply home 0 2
+at 13000 13000
+beat
 apply home 0 1
-view west 1 1@0+ 0 A
+open 1 view home 2 - 0 A
+wait 1
+look 1
+snap 1
+store 1
+view home 2 - 0 A
+at 13001 13001
+open 2 view home 2 - 0 A
+wait 2
+look 2
+snap 2
+store 2
+view home 2 - 0 A
 end
 ";
     let report = "\
 1 saved entry=1 revision=1 cookie=1@0
-7 lag index needed=1 reached=0
-8 lag entry needed=1 reached=0
-10 ok source=1 from=replica:0 lagged=0 bytes=55
+3 saved entry=2 revision=1 cookie=2@2
+10 miss checked:13000
+12 ok source=3 from=replica:0 put=interim lagged=0 bytes=55
 <!DOCTYPE html>
 <title>A</title>
 <h1>A</h1>
 <p>one</p>
-end answers=4 entries=1
+13 ok source=3 from=interim lagged=0 bytes=55
+<!DOCTYPE html>
+<title>A</title>
+<h1>A</h1>
+<p>one</p>
+17 miss absent
+19 ok source=3 from=replica:0 put=whole lagged=0 bytes=55
+<!DOCTYPE html>
+<title>A</title>
+<h1>A</h1>
+<p>one</p>
+20 ok source=3 from=hit lagged=0 bytes=55
+<!DOCTYPE html>
+<title>A</title>
+<h1>A</h1>
+<p>one</p>
+end answers=8 entries=3
 ";
-    reports(rt.alloc(), keeper, script, report)
+    assert_report(&rt, rt.alloc(), script, report)
 }
 
 #[test]
-fn an_append_fails(rt: HostRuntime) -> Result<(), Fail> {
-    let keeper = MemKeeper::failing(rt.alloc(), [1u64].to_vec(rt.alloc())?);
+fn an_interim_page_is_not_older_than_a_purge(rt: HostRuntime) -> Result<(), Fail> {
     let script = "\
 edit 1 t1 A 0 one
-edit 1 t1 A 0 one
-carry 1
-carry 4
-look 9
+apply home 0 1
+view home 2 - 0 A
+edit 1 t2 A 1 two
+view home 2 - 0 A
+at 1 1
+edit 1 t3 A 2 six
+view home 2 - 0 A
 end
 ";
     let report = "\
-1 store
-2 saved entry=1 revision=1 cookie=1@0
-4 unknown message=4
-5 not-open id=9
-end answers=4 entries=1
+1 saved entry=1 revision=1 cookie=1@0
+3 ok source=1 from=replica:0 lagged=0 bytes=55
+<!DOCTYPE html>
+<title>A</title>
+<h1>A</h1>
+<p>one</p>
+4 saved entry=2 revision=2 cookie=2@0
+5 ok source=1 from=interim lagged=0 bytes=55
+<!DOCTYPE html>
+<title>A</title>
+<h1>A</h1>
+<p>one</p>
+7 saved entry=3 revision=3 cookie=3@0
+8 ok source=1 from=replica:0 lagged=0 bytes=55
+<!DOCTYPE html>
+<title>A</title>
+<h1>A</h1>
+<p>one</p>
+end answers=6 entries=3
 ";
-    reports(rt.alloc(), keeper, script, report)
+    assert_report(&rt, rt.alloc(), script, report)
 }
 
 #[test]
 fn an_interim_page_is_not_older_than_a_template(rt: HostRuntime) -> Result<(), Fail> {
-    let keeper = MemKeeper::new(rt.alloc());
     let script = "\
 edit 1 t1 A 0 {{x}}
 edit 1 t2 Template:X 0 one
@@ -227,12 +182,11 @@ end
 <p>one</p>
 end answers=9 entries=4
 ";
-    reports(rt.alloc(), keeper, script, report)
+    assert_report(&rt, rt.alloc(), script, report)
 }
 
 #[test]
 fn bounds_that_are_set(rt: HostRuntime) -> Result<(), Fail> {
-    let keeper = MemKeeper::new(rt.alloc());
     let script = "\
 bounds 1000 2000 500
 edit 1 t1 A 0 one
@@ -265,12 +219,55 @@ end
 <p>one</p>
 end answers=4 entries=2
 ";
-    reports(rt.alloc(), keeper, script, report)
+    assert_report(&rt, rt.alloc(), script, report)
+}
+
+#[test]
+fn a_commit_in_time_is_purged_once(rt: HostRuntime) -> Result<(), Fail> {
+    let script = "\
+edit 1 t1 A 0 one
+apply home 0 1
+at 20000 20000
+open 1 edit 1 t2 A 1 two
+begin 1
+at 23000 23000
+commit 1
+at 34000 34000
+beat
+apply home 0 2
+view home 2 - 0 A
+at 34001 34001
+view home 2 - 0 A
+view home 2 - 0 A
+carry 5
+end
+";
+    let report = "\
+1 saved entry=1 revision=1 cookie=1@0
+7 saved entry=2 revision=2 cookie=2@23
+11 ok source=3 from=replica:0 lagged=0 bytes=55
+<!DOCTYPE html>
+<title>A</title>
+<h1>A</h1>
+<p>two</p>
+13 ok source=3 from=hit lagged=0 bytes=55
+<!DOCTYPE html>
+<title>A</title>
+<h1>A</h1>
+<p>two</p>
+14 ok source=3 from=hit lagged=0 bytes=55
+<!DOCTYPE html>
+<title>A</title>
+<h1>A</h1>
+<p>two</p>
+15 unknown message=5
+end answers=6 entries=3
+";
+    assert_report(&rt, rt.alloc(), script, report)
 }
 
 #[test]
 fn how_a_page_is_kept_at_the_read_lag(rt: HostRuntime) -> Result<(), Fail> {
-    let keeper = MemKeeper::new(rt.alloc());
     let script = "\
 edit 1 t1 A 0 one
 at 20000 20000
@@ -295,12 +292,11 @@ end
 <p>one</p>
 end answers=3 entries=2
 ";
-    reports(rt.alloc(), keeper, script, report)
+    assert_report(&rt, rt.alloc(), script, report)
 }
 
 #[test]
 fn how_a_page_is_kept(rt: HostRuntime) -> Result<(), Fail> {
-    let keeper = MemKeeper::new(rt.alloc());
     let script = "\
 edit 1 t1 A 0 one
 edit 1 t2 B 0 one
@@ -407,87 +403,5 @@ end
 <p>one</p>
 end answers=21 entries=8
 ";
-    reports(rt.alloc(), keeper, script, report)
-}
-
-#[test]
-fn how_long_a_cookie_and_a_position_count(rt: HostRuntime) -> Result<(), Fail> {
-    let keeper = MemKeeper::new(rt.alloc());
-    let script = "\
-edit 1 t1 A 0 one
-at 10999 10999
-view west 1 1@0 0 A
-at 11000 11000
-view west 1 1@0 0 A
-at 59999 59999
-view home 1 - 0 A
-at 60000 60000
-view home 1 - 0 A
-end
-";
-    let report = "\
-1 saved entry=1 revision=1 cookie=1@0
-3 lag index needed=1 reached=0
-5 no-page source=0
-7 lag entry needed=1 reached=0
-9 no-page source=0
-end answers=5 entries=1
-";
-    reports(rt.alloc(), keeper, script, report)
-}
-
-#[test]
-fn the_last_moment_of_a_template(rt: HostRuntime) -> Result<(), Fail> {
-    let keeper = MemKeeper::new(rt.alloc());
-    let script = "\
-edit 1 t1 A 0 one
-at 2000 2000
-edit 1 t2 Template:X 0 x
-apply home 0 2
-at 13000 13000
-beat
-apply home 0 1
-open 1 view home 2 - 0 A
-wait 1
-look 1
-snap 1
-store 1
-view home 2 - 0 A
-at 13001 13001
-open 2 view home 2 - 0 A
-wait 2
-look 2
-snap 2
-store 2
-view home 2 - 0 A
-end
-";
-    let report = "\
-1 saved entry=1 revision=1 cookie=1@0
-3 saved entry=2 revision=1 cookie=2@2
-10 miss checked:13000
-12 ok source=3 from=replica:0 put=interim lagged=0 bytes=55
-<!DOCTYPE html>
-<title>A</title>
-<h1>A</h1>
-<p>one</p>
-13 ok source=3 from=interim lagged=0 bytes=55
-<!DOCTYPE html>
-<title>A</title>
-<h1>A</h1>
-<p>one</p>
-17 miss absent
-19 ok source=3 from=replica:0 put=whole lagged=0 bytes=55
-<!DOCTYPE html>
-<title>A</title>
-<h1>A</h1>
-<p>one</p>
-20 ok source=3 from=hit lagged=0 bytes=55
-<!DOCTYPE html>
-<title>A</title>
-<h1>A</h1>
-<p>one</p>
-end answers=8 entries=3
-";
-    reports(rt.alloc(), keeper, script, report)
+    assert_report(&rt, rt.alloc(), script, report)
 }
