@@ -54,7 +54,8 @@ pub fn count_answer(summary: &mut Summary, answer: &Answer)
     requires ordered { IsOrdered summary.old }
     ensures counted { summary.new ≡ counted summary.old (answer_of answer.now) }
     ensures ordered { IsOrdered summary.new }
-    ensures more { (answers : List model.Answer) → IsSummaryOf summary.old answers → IsSummaryOf summary.new (answers ++ answer_of answer.now ∷ []) }
+    ensures more { (answers : List model.Answer) → IsSummaryOf summary.old answers
+        → IsSummaryOf summary.new (answers ++ answer_of answer.now ∷ []) }
 {
     summary.answers += 1;
     match answer {
@@ -81,7 +82,8 @@ pub fn summary_line(
     entries: u64,
     summary: &Summary,
 ) -> Result<Vec<u8>, Memory>
-    ensures { IfOk result (λ text. (answers : List model.Answer) → IsSummaryOf summary.now answers → text.items ≡ summary_of steps entries answers) }
+    ensures { IfOk result (λ text. (answers : List model.Answer) → IsSummaryOf summary.now answers
+        → text.items ≡ summary_of steps entries answers) }
 {
     let said = summary_text(alloc, steps, entries, summary)?;
     let mut text = Vec::new(alloc);

@@ -1,15 +1,15 @@
 //! Scripts of a farm's steps, and the reports of their answers: text over plain values, with no farm.
 //!
-//! A script is lines, each ended by a line feed, the last of them `end`. Whoever reads bytes that someone typed has to
-//! say exactly which line is the first that is wrong, and here is why that is possible: whether a line may stand where it
-//! stands hangs on five facts of the lines before it (whether there are any, whether `farm` stands alone, how many
-//! replicas each region has, the greatest opened id, whether `end` was read). A [`ScriptState`] holds these five. So
-//! [`read_line`] reads one line after another, and is the same whether a whole script is read or a line comes alone. What
-//! is read is spelled so, and what is spelled is read: the bytes of a script are never a second script
-//! ([`scripts_are_one`]).
+//! A script is lines, each ended by a line feed, the last of them `end`. Whoever reads bytes that someone typed has
+//! to say exactly which line is the first that is wrong, and here is why that is possible: whether a line may stand
+//! where it stands hangs on five facts of the lines before it (whether there are any, whether `farm` stands alone,
+//! how many replicas each region has, the greatest opened id, whether `end` was read). A [`ScriptState`] holds these
+//! five. So [`read_line`] reads one line after another, and is the same whether a whole script is read or a line
+//! comes alone. What is read is spelled so, and what is spelled is read: the bytes of a script are never a second
+//! script ([`scripts_are_one`]).
 //!
-//! The other way round, [`report_line`] writes the text of an answer, [`end_line`] the last line, and [`summary_line`] what
-//! was counted of the answers.
+//! The other way round, [`report_line`] writes the text of an answer, [`end_line`] the last line, and
+//! [`summary_line`] what was counted of the answers.
 //!
 //! What is left to others: what a line does ([`region_state`] and the farm above it), which scripts a generator makes
 //! (`script_generator`), where bytes come from and go to.

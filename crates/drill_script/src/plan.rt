@@ -112,7 +112,8 @@ fn epoch_by(line: &ScriptLine) -> Moment
 }
 
 fn bounds_told(first: Option<&ScriptLine>, second: Option<&ScriptLine>) -> Bounds
-    ensures { bounds_of result ≡ bounds_told (option_map (λ l. line_of l.now) first.entry) (option_map (λ l. line_of l.now) second.entry) }
+    ensures { bounds_of result ≡ bounds_told (option_map (λ l. line_of l.now) first.entry)
+        (option_map (λ l. line_of l.now) second.entry) }
 {
     match first {
         None => Bounds::default(),

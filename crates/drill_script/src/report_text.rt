@@ -34,7 +34,8 @@ pub fn report_head(
     answer: &Answer,
     composite: bool,
 ) -> Result<Vec<u8>, Memory>
-    ensures { IfOk result (λ text. text.items ++ page_of (answer_of answer.now) ≡ report_line line composite (answer_of answer.now)) }
+    ensures { IfOk result (λ text.
+        text.items ++ page_of (answer_of answer.now) ≡ report_line line composite (answer_of answer.now)) }
 {
     let said = answer_text(alloc, !composite, answer)?;
     let numbered = numbered_text(alloc, line, said.as_str())?;

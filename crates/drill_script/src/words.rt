@@ -142,7 +142,8 @@ pub fn token_of(alloc: Global, word: &str) -> Result<Token, LineFault>
 
 // The character that a backslash before the text spells, and what stands after it.
 fn character_at(text: &str) -> Option<(&str, &str)>
-    ensures character { MatchOption result (character_at text.now ≡ None) (λ x. character_at text.now ≡ Some (x.0.now, x.1.now)) }
+    ensures character { MatchOption result (character_at text.now ≡ None)
+        (λ x. character_at text.now ≡ Some (x.0.now, x.1.now)) }
     ensures shorter { IfSome result (λ x. length x.1.now < length text.now) }
 {
     if let Some(rest) = text.strip_prefix('n') {
@@ -157,7 +158,8 @@ fn character_at(text: &str) -> Option<(&str, &str)>
 // What stands before the first backslash, and what after it.
 #[tactic(auto, unfolding(crate::specs::Words::cut_first))]
 fn backslash_at(text: &str) -> Option<(&str, &str)>
-    ensures cut { MatchOption result (cut_first 92 text.now ≡ None) (λ x. cut_first 92 text.now ≡ Some (x.0.now, x.1.now)) }
+    ensures cut { MatchOption result (cut_first 92 text.now ≡ None)
+        (λ x. cut_first 92 text.now ≡ Some (x.0.now, x.1.now)) }
     ensures shorter { IfSome result (λ x. length x.1.now < length text.now) }
 {
     text.split_once('\\')
@@ -209,7 +211,8 @@ fn comma_at(text: &str) -> Option<(&str, &str)>
 }
 
 fn push_weight(weights: &mut Vec<u16>, word: &str) -> Result<(), LineFault>
-    ensures { Gives (λ _. weights.new.items) result (option_map (λ n. weights.old.items ++ n ∷ []) (number_of 1_000 word.now)) }
+    ensures { Gives (λ _. weights.new.items) result
+        (option_map (λ n. weights.old.items ++ n ∷ []) (number_of 1_000 word.now)) }
 {
     let weight = number_of(WEIGHT_MAX, word)?;
     match weights.push(weight as u16) {

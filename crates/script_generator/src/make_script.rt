@@ -161,7 +161,8 @@ fn step_text(alloc: Global, number: u64, state: &Stirring, draws: &Draws) -> Res
 fn last_view(alloc: Global, state: &Stirring, draws: &Draws) -> Result<String, Memory>
     requires below { IsBelow draws.now }
     requires home { state.now.home < 2 ^ 63 }
-    ensures { IfOk result (λ s. string_bytes s ≡ view_text (codes "west") (1 + draws.now.client) (position state.now draws.now) draws.now.word (letter draws.now)) }
+    ensures { IfOk result (λ s. string_bytes s ≡ view_text (codes "west") (1 + draws.now.client)
+        (position state.now draws.now) draws.now.word (letter draws.now)) }
 {
     let position = last_position(alloc, state, draws)?;
     view_line(alloc, "west", position.as_str(), draws)
@@ -181,7 +182,8 @@ fn beat_line(alloc: Global) -> Result<String, Memory>
 
 fn edit_line(alloc: Global, number: u64, state: &Stirring, draws: &Draws) -> Result<String, Memory>
     requires below { IsBelow draws.now }
-    ensures { IfOk result (λ s. string_bytes s ≡ edit_text number (1 + draws.now.client) (letter draws.now) (slice_index state.now.revisions draws.now.title)) }
+    ensures { IfOk result (λ s. string_bytes s ≡ edit_text number (1 + draws.now.client)
+        (letter draws.now) (slice_index state.now.revisions draws.now.title)) }
 {
     let base = state.revisions[draws.title as usize];
     edit_text(
@@ -213,7 +215,8 @@ fn apply_line(alloc: Global, region: &str, replica: u64) -> Result<String, Memor
 
 fn view_line(alloc: Global, region: &str, cookie: &str, draws: &Draws) -> Result<String, Memory>
     requires below { IsBelow draws.now }
-    ensures { IfOk result (λ s. string_bytes s ≡ view_text region.now (1 + draws.now.client) cookie.now draws.now.word (letter draws.now)) }
+    ensures { IfOk result (λ s. string_bytes s ≡ view_text region.now (1 + draws.now.client)
+        cookie.now draws.now.word (letter draws.now)) }
 {
     let client = 1 + draws.client;
     view_text(

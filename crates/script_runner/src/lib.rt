@@ -1,7 +1,7 @@
 //! Runs the lines of a script on a farm.
 //!
-//! A line makes the steps of its form at the readings that stand, and has at most one answer in the report: a whole edit or
-//! a whole view ends at its first answer, and a miss in between is not shown.
+//! A line makes the steps of its form at the readings that stand, and has at most one answer in the report: a whole
+//! edit or a whole view ends at its first answer, and a miss in between is not shown.
 #![tactic(auto)]
 
 mod make_lines;

@@ -16,8 +16,8 @@ use revision_keeper::Keeper;
 use std::alloc::Global;
 use wan_cache::RegionStore;
 
-/// Makes the steps of a line at these readings, and gives the answer that the report has of it: a line has at most one. A
-/// line that sets something makes no step.
+/// Makes the steps of a line at these readings, and gives the answer that the report has of it: a line has at most
+/// one. A line that sets something makes no step.
 pub fn make_line<K: Keeper, S: RegionStore<Page>>(
     alloc: Global,
     farm: &mut Farm<K, S>,
@@ -66,7 +66,8 @@ fn make_edit<K: Keeper, S: RegionStore<Page>>(
 ) -> Option<Answer>
     requires whole { IsWhole farm.old }
     requires free { open_at farm.old.requests 0 ≡ None }
-    ensures { MakesLine K.content K.faults S.cache farm.old farm.new at.now (EditLine (edit_of ask)) (option_map answer_of result) }
+    ensures { MakesLine K.content K.faults S.cache farm.old farm.new at.now
+        (EditLine (edit_of ask)) (option_map answer_of result) }
 {
     let opened = farm.arrive(*at, 0, of_edit(ask));
     if opened.is_some() {
@@ -88,7 +89,8 @@ fn make_view<K: Keeper, S: RegionStore<Page>>(
 ) -> Option<Answer>
     requires whole { IsWhole farm.old }
     requires free { open_at farm.old.requests 0 ≡ None }
-    ensures { MakesLine K.content K.faults S.cache farm.old farm.new at.now (ViewLine (view_of ask)) (option_map answer_of result) }
+    ensures { MakesLine K.content K.faults S.cache farm.old farm.new at.now
+        (ViewLine (view_of ask)) (option_map answer_of result) }
 {
     let opened = farm.arrive(*at, 0, of_view(ask));
     if opened.is_some() {

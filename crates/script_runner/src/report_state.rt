@@ -66,7 +66,8 @@ fn write_parts<O: Sink>(sink: &mut O, head: &[u8], page: &[u8]) -> ReportState
 
 /// Writes all of the bytes, if no write fails.
 pub fn write_part<O: Sink>(sink: &mut O, bytes: &[u8]) -> ReportState
-    ensures { IsReported result (O.written sink.old) (O.written sink.new) (O.faults sink.old) (O.faults sink.new) bytes.now }
+    ensures { IsReported result (O.written sink.old) (O.written sink.new)
+        (O.faults sink.old) (O.faults sink.new) bytes.now }
 {
     match write_all(sink, bytes) {
         Ok(()) => ReportState::Whole,

@@ -22,9 +22,9 @@ use revision_keeper::Keeper;
 use std::alloc::Global;
 use wan_cache::RegionStore;
 
-/// Makes the steps of all lines, in order, and writes the lines of each answer as it is made. If a write fails, or memory
-/// runs out for the text of an answer, nothing more is written, and the steps are made all the same: what was answered does
-/// not hang on what was written.
+/// Makes the steps of all lines, in order, and writes the lines of each answer as it is made. If a write fails, or
+/// memory runs out for the text of an answer, nothing more is written, and the steps are made all the same: what was
+/// answered does not hang on what was written.
 pub fn report_script<K: Keeper, S: RegionStore<Page>, O: Sink>(
     alloc: Global,
     farm: &mut Farm<K, S>,
@@ -104,7 +104,8 @@ fn make_next<K: Keeper, S: RegionStore<Page>>(
     requires free { open_at farm.old.requests 0 ≡ None }
     requires ready { IsReadyFor farm.old line }
     ensures at { at.new ≡ readings_after (line_of line) at.old }
-    ensures made { MakesLine K.content K.faults S.cache farm.old farm.new at.new (line_of line) (option_map answer_of result) }
+    ensures made { MakesLine K.content K.faults S.cache farm.old farm.new at.new
+        (line_of line) (option_map answer_of result) }
 {
     *at = readings_after(&line, *at);
     make_line(alloc, farm, *at, line)

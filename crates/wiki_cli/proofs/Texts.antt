@@ -37,7 +37,6 @@ pub stays_same : (a : Option Bytes) → Stays a a
 stays_same None = tt
 stays_same (Some xs) = refl
 
-
 -- how a text that is written so far ends, by what is written after it
 module _ (failed : Type 0) (old : Option Bytes) (Whole Cut : Bytes → Type 0) where
   -- the whole text ends with the last line

@@ -32,7 +32,8 @@ pub fn drill_bytes<K: Keeper + Drop, O: Sink>(
     keeper: K,
     sink: &mut O,
 ) -> Ended<K>
-    ensures drills { K.content keeper ≡ Some [] → Drills bytes.now (K.faults keeper) (kept_by K.content K.faults result.keeper)
+    ensures drills { K.content keeper ≡ Some [] → Drills bytes.now
+        (K.faults keeper) (kept_by K.content K.faults result.keeper)
         (Rose (O.faults sink.old) (O.faults sink.new)) (O.written sink.old) (O.written sink.new) result.status }
     ensures refused { IsRefusedBy bytes.now result.status }
     ensures says { Says (Rose (O.faults sink.old) (O.faults sink.new))
@@ -70,7 +71,8 @@ pub fn stir_keeper<K: Keeper + Drop, O: Sink>(
 ) -> Ended<K>
     requires seed { seed < seed_limit }
     requires steps { steps ≤ steps_max }
-    ensures stirs { K.content keeper ≡ Some [] → Stirs seed steps (K.faults keeper) (kept_by K.content K.faults result.keeper)
+    ensures stirs { K.content keeper ≡ Some [] → Stirs seed steps
+        (K.faults keeper) (kept_by K.content K.faults result.keeper)
         (Rose (O.faults sink.old) (O.faults sink.new)) (O.written sink.old) (O.written sink.new) result.status }
     ensures end { IsRunEnd result.status }
     ensures cause { HasRisen (Rose (O.faults sink.old) (O.faults sink.new))
@@ -94,7 +96,8 @@ fn stir_bytes<K: Keeper + Drop, O: Sink>(
     sink: &mut O,
 ) -> Ended<K>
     requires script { (lines : List Line) × IsScript lines bytes.now }
-    ensures stirs { K.content keeper ≡ Some [] → CountsScript bytes.now steps (K.faults keeper) (kept_by K.content K.faults result.keeper)
+    ensures stirs { K.content keeper ≡ Some [] → CountsScript bytes.now steps
+        (K.faults keeper) (kept_by K.content K.faults result.keeper)
         (Rose (O.faults sink.old) (O.faults sink.new)) (O.written sink.old) (O.written sink.new) result.status }
     ensures end { IsRunEnd result.status }
     ensures cause { HasRisen (Rose (O.faults sink.old) (O.faults sink.new))
@@ -179,7 +182,8 @@ pub fn perform<I: Source, K: Keeper + Drop, O: Sink>(
         (O.written sink.old) (O.written sink.new) result.status }
     ensures end { IsCommandEnd result.status }
     ensures read { result.status ≡ ReadFault → Rose (I.faults source.old) (I.faults source.new) }
-    ensures read_out { command ≡ Drill → K.content keeper ≡ Some [] → result.status ≡ Done → IsAtEnd (I.left source.new) }
+    ensures read_out { command ≡ Drill → K.content keeper ≡ Some []
+        → result.status ≡ Done → IsAtEnd (I.left source.new) }
     ensures cause { HasRisen (Rose (O.faults sink.old) (O.faults sink.new))
         (Rose (K.faults keeper) (K.faults result.keeper)) result.status }
 {
@@ -220,7 +224,8 @@ fn perform_on_empty<I: Source, K: Keeper + Drop, O: Sink>(
         (O.written sink.old) (O.written sink.new) result.status }
     ensures end { IsSourceEnd result.status }
     ensures read { result.status ≡ ReadFault → Rose (I.faults source.old) (I.faults source.new) }
-    ensures read_out { command ≡ Drill → K.content keeper ≡ Some [] → result.status ≡ Done → IsAtEnd (I.left source.new) }
+    ensures read_out { command ≡ Drill → K.content keeper ≡ Some []
+        → result.status ≡ Done → IsAtEnd (I.left source.new) }
     ensures cause { HasRisen (Rose (O.faults sink.old) (O.faults sink.new))
         (Rose (K.faults keeper) (K.faults result.keeper)) result.status }
 {

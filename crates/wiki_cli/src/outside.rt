@@ -19,8 +19,8 @@ use purge_relay::Wire;
 use revision_keeper::Keeper;
 use std::alloc::Global;
 
-/// All that lies outside the program: where a script or a layout comes from and where a report goes, where connections come
-/// from, the history, the clocks, random words, and the wire between the regions.
+/// All that lies outside the program: where a script or a layout comes from and where a report goes, where
+/// connections come from, the history, the clocks, random words, and the wire between the regions.
 #[derive(Drop)]
 pub struct Outside<I: Drop, O: Drop, D: Drop, K: Drop, C: Drop, L: Drop, W: Drop> {
     pub source: I,
@@ -110,9 +110,10 @@ where
 
 /// All that the program does.
 ///
-/// With the word `drill` the whole script is read first; then all its steps are made from an empty history, and the report is
-/// written as the answers come. If a write fails nothing more is written, and the steps are made all the same. With
-/// `stir SEED STEPS` the script is made instead of read, and what is written is one line with the counts of its answers.
+/// With the word `drill` the whole script is read first; then all its steps are made from an empty history, and the
+/// report is written as the answers come. If a write fails nothing more is written, and the steps are made all the
+/// same. With `stir SEED STEPS` the script is made instead of read, and what is written is one line with the counts
+/// of its answers.
 ///
 /// Nothing is said of when memory runs out.
 pub fn run<I, O, D, K, C, L, W>(

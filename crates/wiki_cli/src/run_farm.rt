@@ -98,7 +98,8 @@ fn write_fault<O: Sink>(sink: &mut O, state: ReportState) -> Status
 
 /// Writes a text to its end, if no write fails.
 fn write_text<O: Sink>(sink: &mut O, text: &[u8]) -> Status
-    ensures { WritesText (O.written sink.old) (O.written sink.new) (O.faults sink.old) (O.faults sink.new) text.now result }
+    ensures { WritesText (O.written sink.old) (O.written sink.new)
+        (O.faults sink.old) (O.faults sink.new) text.now result }
 {
     match write_all(sink, text) {
         Ok(()) => Status::Ok,

@@ -33,7 +33,8 @@ pub fn drill_on<K: Keeper + Drop, S: RegionStore<Page> + Drop, O: Sink>(
     requires west { IsScriptCache S.cache together West script.plan caches.west }
     ensures ends { FromStart K.content K.faults keeper (lines_of script.lines) (λ start.
         let kept = kept_by K.content K.faults result.keeper in
-        EndsReport (IsReportFrom start (lines_of script.lines) kept) (IsCutReportFrom start (lines_of script.lines) kept)
+        EndsReport (IsReportFrom start (lines_of script.lines) kept)
+        (IsCutReportFrom start (lines_of script.lines) kept)
         (Rose (O.faults sink.old) (O.faults sink.new)) (O.written sink.old) (O.written sink.new) result.status) }
     ensures end { IsRunEnd result.status }
     ensures cause { HasRisen (Rose (O.faults sink.old) (O.faults sink.new))

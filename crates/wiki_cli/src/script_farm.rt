@@ -13,8 +13,8 @@ ghost use Rattle.wiki_cli.specs.Ends.{script_slots, together};
 use farm_base::{Memory, Moment, Readings};
 use farm_core::{Farm, FarmPlan, NewFault, Page};
 use revision_keeper::Keeper;
-use std::alloc::Global;
 use slot_cache::SlotCache;
+use std::alloc::Global;
 use wan_cache::RegionStore;
 
 /// The caches of both regions.
