@@ -6,6 +6,7 @@
 //! - `bounds`: bounds of time, and the lists for public fields;
 //! - `bytes`: numbers and other small work on bytes;
 //! - `streams`: sources and sinks, whole streams, calls that fail by plan;
+//! - `connections`: connections, doors, clocks and lots;
 //! - `titles`: what is typed for a title, its class and its path;
 //! - `clients`: tokens and client ids;
 //! - `texts`: line ends and lengths of texts;
@@ -23,6 +24,8 @@ mod bounds;
 mod bytes;
 #[cfg(test)]
 mod clients;
+#[cfg(test)]
+mod connections;
 #[cfg(test)]
 mod feed;
 #[cfg(test)]

@@ -3,7 +3,7 @@ ghost use Rattle.std.specs.Prelude.{◌≡◌, [], ◌∷◌, IfOk, option_map, 
 ghost use Rattle.farm_base.specs.AsModel.{bounds_of};
 ghost use Rattle.drill_script.specs.AsModel.{line_of};
 ghost use Rattle.drill_script.specs.Plan.{weights_by, epoch_by, bounds_by, weights_told, epoch_told, bounds_at, bounds_told};
-ghost use Rattle.drill_script.specs.ReadScript.{lines_of, IsPlan};
+ghost use Rattle.drill_script.specs.ReadScript.{lines_of, HasRoom, IsPlan};
 
 use crate::ScriptLine;
 use crate::script_state::is_farm;
@@ -18,7 +18,8 @@ pub const SLOTS: u32 = 65_536; // pages
 /// bounds of the line `bounds`, if it is the first or follows that one. Replicas apply nothing of themselves.
 #[tactic(auto, using(crate::proofs::Plans::plan_is))]
 pub fn plan_of(alloc: Global, lines: &[ScriptLine]) -> Result<FarmPlan, Memory>
-    ensures { IfOk result (λ plan. IsPlan lines.now plan) }
+    ensures plan { IfOk result (λ plan. IsPlan lines.now plan) }
+    ensures room { IfOk result (λ plan. HasRoom plan) }
 {
     let first = line_at(lines, 0);
     let second = line_at(lines, 1);
@@ -35,7 +36,8 @@ pub fn plan_of(alloc: Global, lines: &[ScriptLine]) -> Result<FarmPlan, Memory>
 }
 
 fn region_plan(weights: Listed<u16>) -> RegionPlan
-    ensures { result.weights ≡ weights }
+    ensures weights { result.weights ≡ weights }
+    ensures slots { result.slots ≡ 65_536 }
 {
     RegionPlan {
         weights,

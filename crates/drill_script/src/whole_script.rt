@@ -3,7 +3,7 @@ ghost use Rattle.std.specs.Prelude.{◌≡◌, ◌≤◌, ◌<◌, ◌+◌, ◌+
 ghost use Rattle.wiki_model.specs.Limits.{script_max};
 ghost use Rattle.drill_script.specs.AsModel.{line_of};
 ghost use Rattle.drill_script.specs.declared.whole_script.ScriptFault.TheVariants.{Line};
-ghost use Rattle.drill_script.specs.ReadScript.{lines_of, IsPlan, ReadsScript, ReadsLines};
+ghost use Rattle.drill_script.specs.ReadScript.{lines_of, HasRoom, IsPlan, ReadsScript, ReadsLines};
 ghost use Rattle.drill_script.specs.ReadSoFar.{IsLineCut};
 
 use crate::ScriptLine;
@@ -50,7 +50,8 @@ impl From<Memory> for ScriptFault {
 
 /// The script that the bytes are. One pass, with no more memory than the lines.
 pub fn read_script(alloc: Global, bytes: &[u8]) -> Result<Script, ScriptFault>
-    ensures { ReadsScript result bytes.now }
+    ensures read { ReadsScript result bytes.now }
+    ensures room { IfOk result (λ script. HasRoom script.plan) }
 {
     let lines = read_lines(alloc, bytes)?;
     let plan = plan_of(alloc, lines.as_slice())?;

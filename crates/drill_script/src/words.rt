@@ -1,9 +1,10 @@
 // Readers of the words of a line.
-ghost use Rattle.std.specs.Prelude.{◌≡◌, ◌≤◌, ◌<◌, length, None, Some, IfOk, IfSome, MatchOption, option_map, ◌++◌, ◌∷◌, []};
+ghost use Rattle.std.specs.Prelude.{◌≡◌, ◌≢◌, Err, ◌≤◌, ◌<◌, length, None, Some, IfOk, IfSome, MatchOption, option_map, ◌++◌, ◌∷◌, []};
 ghost use Rattle.std.specs.String.{string_bytes};
 ghost use Rattle.sticky_routes.specs.AsModel.{cookie_of};
 ghost use Rattle.wiki_model.specs.Script.{unescaped};
 ghost use Rattle.wiki_model.specs.Limits.{replicas_max};
+ghost use Rattle.drill_script.specs.declared.words.LineFault.TheVariants.{Memory};
 ghost use Rattle.drill_script.specs.Words.{Gives, cut_first, word_at, number_of, positive_of, client_in, region_in, is_number, title_in, last_title, token_in, character_at, short_text, text_in, weights_in, before_plus, position_in, cookie_in, utf8_of};
 
 use farm_base::bytes::are_digits;
@@ -59,11 +60,12 @@ fn is_number(bytes: &[u8]) -> bool
     0 < bytes.len() && are_digits(bytes) && (bytes.len() < 2 || b'0' < bytes[0])
 }
 
-/// A number of at most `most`.
+/// A number of at most `most`. It takes no memory.
 #[tactic(auto, unfolding(crate::specs::Words::number_of))]
 pub fn number_of(most: u64, word: &str) -> Result<u64, LineFault>
     ensures value { Gives (λ n. n) result (number_of most word.now) }
     ensures bound { IfOk result (λ n. n ≤ most) }
+    ensures form { result ≢ Err Memory }
 {
     if !is_number(word.as_bytes()) {
         return Err(LineFault::Form);

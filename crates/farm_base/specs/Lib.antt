@@ -2,7 +2,13 @@ pub mod AsModel
 pub mod Causes
 pub mod Exposed
 pub mod FailingCalls
+pub mod Half
 pub mod MemSource
 pub mod MemSink
 pub mod Bytes
 pub mod InputFault
+pub mod Offered
+pub mod Series
+pub mod MemConn
+pub mod MemDoor
+pub mod MemClock

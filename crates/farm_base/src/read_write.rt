@@ -14,6 +14,7 @@ pub fn write_all<O: Sink>(sink: &mut O, bytes: &[u8]) -> Result<(), OutFault>
     ensures ok { OnOk result (Adds (O.written sink.old) (O.written sink.new) bytes.now) }
     ensures prefix { AddsPrefix (O.written sink.old) (O.written sink.new) bytes.now }
     ensures cause { HasCause (O.faults sink.old) (O.faults sink.new) result }
+    ensures other { O.reading_half sink.new ≡ O.reading_half sink.old }
 {
     let mut done = 0;
     while done < bytes.len() {
@@ -36,6 +37,7 @@ pub fn read_all<I: Source>(
     ensures all { IfOk result (λ v. ReadsAll limit (I.left source.old) (I.left source.new) v.items) }
     ensures later { I.faults source.old ≤ I.faults source.new }
     ensures failed { OnFailed result (Rose (I.faults source.old) (I.faults source.new)) }
+    ensures other { I.writing_half source.new ≡ I.writing_half source.old }
 {
     let mut bytes = Vec::new(alloc);
     let mut buf = [0u8; 4096];

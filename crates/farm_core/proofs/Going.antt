@@ -67,4 +67,5 @@ steps_on content faults cache_of old new at step reply Moves s = record {
   goes_on = goes_on content faults cache_of old new at step reply s.goes;
   requests = s.requests;
   shape = record { plan = s.shape.plan; whole = s.shape.whole; home = s.shape.home; west = s.shape.west };
+  counts = s.counts;
 }

@@ -1,6 +1,6 @@
 -- No step changes the farm's shape: each one that works on a region puts a cache in the place of the cache, positions in the place
 -- of positions, or a replica in the place of that replica.
-use Rattle.std.proofs.Common.{◌≡◌, ℕ, zero, suc, List, [], ◌∷◌, length, Option, Some, None, Result, Ok, Err, refl, sym, ap, subst, ◌∙◌, inl, inr}
+use Rattle.std.proofs.Common.{◌≡◌, ◌≤◌, ℕ, zero, suc, List, [], ◌∷◌, length, Option, Some, None, Result, Ok, Err, refl, sym, ap, subst, ◌∙◌, inl, inr}
 use Rattle.std.specs.Prelude.{IsSome, slice_set}
 use Rattle.wiki_model.specs.declared.Region.{Region}
 use Rattle.wiki_model.specs.declared.Region.TheVariants.{Home, West}
@@ -8,7 +8,7 @@ use Rattle.wiki_model.specs.declared.Readings.{Readings}
 use Rattle.wiki_model.specs.Bytes.{Bytes}
 use Rattle.wiki_model.specs.History.{Entry}
 use Rattle.wiki_model.specs.Cache.{CacheMap}
-use Rattle.wiki_model.specs.Answers.{Answer}
+use Rattle.wiki_model.specs.Answers.{Answer, Page, EditSaved, NoPage, Conflict, TokenUsed, Lagging, Miss, NotOpen, Unknown, Gone, StoreFault, NoMemory}
 use Rattle.purge_relay.specs.declared.message.Body.{Body}
 use Rattle.purge_relay.specs.declared.message.Body.TheVariants.{Purge, Position}
 use Rattle.purge_relay.specs.declared.ledger_row.LedgerRow.{LedgerRow}
@@ -32,6 +32,7 @@ use Rattle.farm_steps.specs.ViewSteps.{StoresTo, region_at, other_region}
 use Rattle.farm_steps.specs.RelaySteps.{TakesRow, TakesBody, CarriesAs}
 use Rattle.farm_steps.specs.EditSteps.{BeginsTo, EndsBegin, CommitsTo, ReceivesSecond, second_purge_in}
 use Rattle.farm_steps.specs.ApplyStep.{AppliesIn}
+use Rattle.farm_core.specs.AppendBeat.{Beats}
 
 -- one region's shape
 pub record SameRegion {S : Type 0} (old new : RegionParts S) : Type 0 where
@@ -123,3 +124,34 @@ apply_shape {S} told now_told before_faults after_faults home west home_after we
     by : (q : Region) → SameRegion (region_at q home west) (region_at q home_after west_after) → region_at (other_region q) home_after west_after ≡ region_at (other_region q) home west → SameRegion home home_after × SameRegion west west_after
     by Home s o = (s, same_region west west_after o)
     by West s o = (same_region home home_after o, s)
+
+-- the keeper's count of faults, by the steps that ask it
+
+pub beat_counts : (told now : Option (List Entry)) (before after : ℕ) (old_beat new_beat : Option ℕ) (stamp : ℕ) (answer : Option Answer) → Beats told now before after old_beat new_beat stamp answer → before ≤ after
+beat_counts told now before after old_beat new_beat stamp None d = d.1
+beat_counts told now before after old_beat new_beat stamp (Some StoreFault) d = d.2
+beat_counts told now before after old_beat new_beat stamp (Some NoMemory) d = d.1
+beat_counts told now before after old_beat new_beat stamp (Some (Page p)) d = absurd d
+beat_counts told now before after old_beat new_beat stamp (Some (EditSaved s)) d = absurd d
+beat_counts told now before after old_beat new_beat stamp (Some (NoPage source)) d = absurd d
+beat_counts told now before after old_beat new_beat stamp (Some (Conflict base current)) d = absurd d
+beat_counts told now before after old_beat new_beat stamp (Some (TokenUsed entry)) d = absurd d
+beat_counts told now before after old_beat new_beat stamp (Some (Lagging by needed reached)) d = absurd d
+beat_counts told now before after old_beat new_beat stamp (Some (Miss cause)) d = absurd d
+beat_counts told now before after old_beat new_beat stamp (Some (NotOpen id)) d = absurd d
+beat_counts told now before after old_beat new_beat stamp (Some (Unknown message)) d = absurd d
+beat_counts told now before after old_beat new_beat stamp (Some (Gone message)) d = absurd d
+
+pub apply_counts : {S : Type 0} (told now_told : Option (List Entry)) (before_faults after_faults : ℕ) (home west home_after west_after : RegionParts S) (r : Region) (replica count : ℕ) (answer : Option Answer)
+    → AppliesIn told now_told before_faults after_faults home west home_after west_after r replica count answer → before_faults ≤ after_faults
+apply_counts told now_told before_faults after_faults home west home_after west_after r replica count answer (made, said, d) = d.cause.later
+
+pub begin_counts : {S : Type 0} (cache_of : S → CacheMap Bytes) (told after : Option (List Entry)) (before_faults after_faults : ℕ) (home home_after : RegionParts S) (old new : LedgerState) (now delay id : ℕ) (requests requests_after : Entries) (answer : Option Answer) (found : Option EditAsk)
+    → BeginsTo cache_of told after before_faults after_faults home home_after old new now delay id requests requests_after answer found → before_faults ≤ after_faults
+begin_counts cache_of told after before_faults after_faults home home_after old new now delay id requests requests_after answer None (none, leave) = leave.1
+begin_counts cache_of told after before_faults after_faults home home_after old new now delay id requests requests_after answer (Some ask) d = d.cause.later
+
+pub commit_counts : {S : Type 0} (cache_of : S → CacheMap Bytes) (told after : Option (List Entry)) (before_faults after_faults : ℕ) (home home_after : RegionParts S) (old new : LedgerState) (now id : ℕ) (requests requests_after : Entries) (answer : Answer) (found : Option BegunEdit)
+    → CommitsTo cache_of told after before_faults after_faults home home_after old new now id requests requests_after answer found → before_faults ≤ after_faults
+commit_counts cache_of told after before_faults after_faults home home_after old new now id requests requests_after answer None (none, leave) = leave.1
+commit_counts cache_of told after before_faults after_faults home home_after old new now id requests requests_after answer (Some begun) (places, given, d) = d.cause.later

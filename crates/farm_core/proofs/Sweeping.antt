@@ -61,6 +61,7 @@ home_resumes {K} {S} content faults cache_of old home on = subst (λ (h : Region
   };
   requests = refl;
   shape = record { plan = refl; whole = λ whole. whole; home = refl; west = refl };
+  counts = omega arith;
 })
 
 pub home_kept : {K S : Type 0} (content : K → Option (List Entry)) (cache_of : S → CacheMap Bytes) (old : FarmParts K S) (home : RegionParts S) → OnPositions old.home home (MaySweep old.moments.home)
@@ -97,6 +98,7 @@ west_resumes {K} {S} content faults cache_of old west on = subst (λ (h : Region
   };
   requests = refl;
   shape = record { plan = refl; whole = λ whole. whole; home = refl; west = refl };
+  counts = omega arith;
 })
 
 pub west_kept : {K S : Type 0} (content : K → Option (List Entry)) (cache_of : S → CacheMap Bytes) (old : FarmParts K S) (west : RegionParts S) → OnPositions old.west west (MaySweep old.moments.west)
@@ -119,4 +121,5 @@ steps_then content faults cache_of old mid new step reply Moves s r = record {
   goes = λ v fits a. let next = s.goes v fits a in (next.0, record { takes = next.1.takes; counts = next.1.counts; agrees = r.agrees next.0 next.1.agrees; later = next.1.later });
   requests = subst (Moves old.requests) (sym r.requests) s.requests;
   shape = record { plan = r.shape.plan ∙ s.shape.plan; whole = λ whole. r.shape.whole (s.shape.whole whole); home = r.shape.home ∙ s.shape.home; west = r.shape.west ∙ s.shape.west };
+  counts = let up = s.counts in let on = r.counts in omega (arith, up, on);
 }

@@ -71,6 +71,8 @@ pub record Steps {K S : Type 0} (content : K → Option (List Entry)) (faults : 
   -- a request moves to its next point, or is closed
   pub requests : Moves old.requests new.requests
   pub shape : SameShape old new
+  -- the keeper's count of faults does not fall
+  pub counts : faults old.keeper ≤ faults new.keeper
 
 -- the same after the readings were taken
 pub record StepsFrom {K S : Type 0} (content : K → Option (List Entry)) (faults : K → ℕ) (cache_of : S → CacheMap Bytes)
@@ -78,6 +80,7 @@ pub record StepsFrom {K S : Type 0} (content : K → Option (List Entry)) (fault
   pub goes : GoesFrom content faults cache_of old new step reply
   pub requests : Moves old.requests new.requests
   pub shape : SameShape old new
+  pub counts : faults old.keeper ≤ faults new.keeper
 
 -- What the farm does between two steps changes nothing that it stands for: it forgets what has expired.
 pub record Resumes {K S : Type 0} (content : K → Option (List Entry)) (faults : K → ℕ) (cache_of : S → CacheMap Bytes)
@@ -85,3 +88,4 @@ pub record Resumes {K S : Type 0} (content : K → Option (List Entry)) (faults 
   pub agrees : (w : World) → Agrees content faults cache_of old w → Agrees content faults cache_of new w
   pub requests : new.requests ≡ old.requests
   pub shape : SameShape old new
+  pub counts : faults old.keeper ≤ faults new.keeper

@@ -457,6 +457,7 @@ impl<K: Keeper, S: RegionStore<Page> + Drop> Farm<K, S> {
         requires west_empty { IsEmptyCache (S.cache west) }
         ensures fresh { IfOk result (λ farm. IsFresh plan farm) }
         ensures opens { IfOk result (λ farm. Opens K.content K.faults S.cache keeper home west at farm) }
+        ensures counts { IfOk result (λ farm. K.faults keeper ≤ K.faults farm.keeper) }
         ensures cause { IfErr result (λ back. HasNewFault (K.faults keeper) (K.faults back.0) back.1) }
         ensures back { IfErr result (λ back. K.content back.0 ≡ K.content keeper) }
     {

@@ -1,22 +1,26 @@
-//! Tests of the farm of two regions: worked interleavings, each a script with the report of its answers.
+//! Tests of the calls of `Farm` that no script makes, or of which a report shows too little. Scripts with their reports are in
+//! `run_tests`.
 //!
-//! A script says in which order steps are made, and what the clocks read; it runs on a farm over a keeper and caches in
-//! memory. Where a new test goes:
+//! Each helper takes a farm over any keeper and any cache, so that it needs no more than the bounds of the calls promise; the
+//! tests make the farm, in memory. Where a new test goes:
 //!
-//! - `interleavings`: purges that are lost, late or repeated, clocks that disagree, and sessions;
-//! - `rows`: one rule each, at its edges;
-//! - `calls`: calls that are no step, and steps that no script has;
-//! - `running`: a script's run, which they share.
+//! - `steps`: steps of which a script shows less, and steps that it has no form for;
+//! - `calls`: calls that are no step;
+//! - `lent_caches`: a cache that is lent to a round, and given back;
+//! - `reopened_farms`: a farm over a history that another one left;
+//! - `setting`: what they share: a small farm, requests, and steps whose conditions are looked at first.
 //!
-//! No expected report is our own output: each was worked by hand, and a second reading in Python (checks/reference) gives
-//! it too. The error of each test is `std::test::Fail`, so that `?` takes every refusal.
+//! What an answer says is compared as the line that a report has of it, with 1 as its number. The error of each test is
+//! `std::test::Fail`, so that `?` takes every refusal.
 #![tactic(auto)]
 
 #[cfg(test)]
 mod calls;
 #[cfg(test)]
-mod interleavings;
+mod lent_caches;
 #[cfg(test)]
-mod rows;
+mod reopened_farms;
 #[cfg(test)]
-mod running;
+mod setting;
+#[cfg(test)]
+mod steps;

@@ -44,7 +44,7 @@ pub trait Keeper {
     /// How often the keeper has failed. It never falls.
     ghost faults: { Self → ℕ };
 
-    /// Makes the keeper ready. It is called once, before the other calls.
+    /// Makes the keeper ready. It is called before the other calls; called again it changes nothing.
     fn start(&mut self) -> Result<(), KeepFault>
         ensures content { content self.new ≡ content self.old }
         ensures cause { HasFault (faults self.old) (faults self.new) result };

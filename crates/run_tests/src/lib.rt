@@ -1,24 +1,46 @@
 //! Tests of the top call: whole scripts with their reports byte for byte, what is refused, and faults in turn.
 //!
-//! Every test runs the program's own `run` over streams in memory and compares all that it wrote. Where a new
-//! test goes:
+//! Every test runs the program's own `run` over forms in memory and compares how it ended and all that it wrote. No expected
+//! report is our own output: each was worked by hand, and a second reading in Python (checks/reference) gives it too. Where a
+//! new test goes:
 //!
-//! - `reports`: a script and its report, one line to a line;
+//! - `edits`: edits and their answers, and the first views of their pages;
 //! - `pages`: what a text looks like as a page;
-//! - `refusals`: scripts outside the grammar, and words that are no command;
-//! - `faults`: reads and writes that fail, and each status;
-//! - `setting`: what they share: one run, its status and its text.
+//! - `prefixes`: which prefix a page is of, and which replica answers;
+//! - `sessions`: cookies, positions and waiting;
+//! - `cached_pages`: what a cache keeps and shows, at the edges of each rule;
+//! - `interleavings`: purges that are lost, late or repeated, clocks that disagree: the scripts of examples/;
+//! - `refusals`: scripts outside the grammar;
+//! - `words`: words that are no command, scripts that are made, and the number of each status;
+//! - `streams`: reads and writes that fail;
+//! - `keepers`: keepers that fail, that are not empty, and that are given back;
+//! - `setting`: what they share: one run, its status, its text and its keeper;
+//! - `failing_keeper`: a keeper of which other calls than appends fail.
 //!
 //! The error of each test is `std::test::Fail`, so that `?` takes every refusal.
 #![tactic(auto)]
 
 #[cfg(test)]
-mod faults;
+mod cached_pages;
+#[cfg(test)]
+mod edits;
+#[cfg(test)]
+mod failing_keeper;
+#[cfg(test)]
+mod interleavings;
+#[cfg(test)]
+mod keepers;
 #[cfg(test)]
 mod pages;
 #[cfg(test)]
+mod prefixes;
+#[cfg(test)]
 mod refusals;
 #[cfg(test)]
-mod reports;
+mod sessions;
 #[cfg(test)]
 mod setting;
+#[cfg(test)]
+mod streams;
+#[cfg(test)]
+mod words;

@@ -1,6 +1,9 @@
-// One run over streams in memory.
-use farm_base::{MemSink, MemSource};
+// One run over forms in memory.
+use farm_base::{MemClock, MemDoor, MemLots, MemSink, MemSource, Moment, Readings, Sink, Source};
+use purge_relay::FarmWire;
+use revision_keeper::{Keeper, MemKeeper};
 use std::alloc::Global;
+use std::process::Abort;
 use std::test::Fail;
 use wiki_cli::{Outside, Status, run};
 
@@ -13,7 +16,7 @@ pub struct Given<'a> {
     pub writes: &'a [u64],
 }
 
-/// A drill of this input in which nothing fails.
+/// A drill of this input in which no read and no write fails.
 pub fn drill_of(input: &[u8]) -> Given<'_> {
     Given {
         words: &["drill"],
@@ -23,31 +26,104 @@ pub fn drill_of(input: &[u8]) -> Given<'_> {
     }
 }
 
-/// How a run ended, and all that it wrote.
-#[derive(Drop)]
-pub struct Outcome {
-    pub status: Status,
-    pub text: String,
+/// These words and an empty script; no read and no write fails.
+pub fn words_of<'a>(words: &'a [&'a str]) -> Given<'a> {
+    Given {
+        words,
+        input: b"end\n",
+        reads: &[],
+        writes: &[],
+    }
 }
 
-pub fn outcome_of(alloc: Global, given: Given<'_>) -> Result<Outcome, Fail> {
-    let words = words_of(alloc, given.words)?;
-    let mut outside = Outside {
-        source: MemSource::new(given.input.to_vec(alloc)?, given.reads.to_vec(alloc)?),
-        sink: MemSink::new(alloc, given.writes.to_vec(alloc)?),
-    };
-    let status = run(alloc, &words, &mut outside);
-    let text = std::str::from_utf8(outside.sink.bytes())?;
+/// How a run ended, all that it wrote, and the keeper that it gave back.
+#[derive(Drop)]
+pub struct Outcome<K: Drop> {
+    pub status: Status,
+    pub text: String,
+    pub keeper: K,
+}
+
+/// A run over this keeper.
+pub fn outcome_on<K: Keeper + Drop>(
+    alloc: Global,
+    keeper: K,
+    given: Given<'_>,
+) -> Result<Outcome<K>, Fail> {
+    let source = MemSource::new(given.input.to_vec(alloc)?, given.reads.to_vec(alloc)?);
+    let sink = MemSink::new(alloc, given.writes.to_vec(alloc)?);
+    let (status, sink, keeper) = run_over(alloc, given.words, source, sink, keeper)?;
+    let text = std::str::from_utf8(sink.bytes())?;
     Ok(Outcome {
         status,
         text: String::from_str(alloc, text)?,
+        keeper,
     })
 }
 
-pub fn words_of(alloc: Global, words: &[&str]) -> Result<Vec<String>, Fail> {
+/// A run over an empty keeper.
+pub fn outcome_of(alloc: Global, given: Given<'_>) -> Result<Outcome<MemKeeper>, Fail> {
+    outcome_on(alloc, MemKeeper::new(alloc), given)
+}
+
+/// A run over these streams and this keeper: how it ended, the sink, and the keeper that was given back. Nothing comes
+/// through the door, and the clocks stand.
+pub fn run_over<I: Source + Drop, O: Sink + Drop, K: Keeper + Drop>(
+    alloc: Global,
+    words: &[&str],
+    source: I,
+    sink: O,
+    keeper: K,
+) -> Result<(Status, O, K), Fail> {
+    let words = owned(alloc, words)?;
+    let still = Readings {
+        home: Moment(0),
+        west: Moment(0),
+    };
+    let mut outside = Outside {
+        source,
+        sink,
+        door: MemDoor::new(Vec::new(alloc), Vec::new(alloc)),
+        keeper: Some(keeper),
+        clock: MemClock::new(Vec::new(alloc), still),
+        lots: MemLots::new(Vec::new(alloc), 0),
+        wire: FarmWire::new(alloc),
+    };
+    let status = run(alloc, &words, &mut outside);
+    match outside.keeper {
+        Some(keeper) => Ok((status, outside.sink, keeper)),
+        None => Err(Fail::new("the keeper was not given back")),
+    }
+}
+
+fn owned(alloc: Global, words: &[&str]) -> Result<Vec<String>, Fail> {
     let mut owned = Vec::new(alloc);
     for word in words {
         owned.push(String::from_str(alloc, word)?)?;
     }
     Ok(owned)
+}
+
+/// A drill of this script over this keeper is done, and writes this report.
+pub fn assert_report_on<K: Keeper + Drop>(
+    rt: &impl Abort,
+    alloc: Global,
+    keeper: K,
+    script: &str,
+    report: &str,
+) -> Result<(), Fail> {
+    let found = outcome_on(alloc, keeper, drill_of(script.as_bytes()))?;
+    assert_eq!(rt; found.text.as_str(), report);
+    assert_eq!(rt; found.status, Status::Ok);
+    Ok(())
+}
+
+/// A drill of this script over an empty keeper is done, and writes this report.
+pub fn assert_report(
+    rt: &impl Abort,
+    alloc: Global,
+    script: &str,
+    report: &str,
+) -> Result<(), Fail> {
+    assert_report_on(rt, alloc, MemKeeper::new(alloc), script, report)
 }

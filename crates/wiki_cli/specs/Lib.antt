@@ -1,2 +1,4 @@
 pub mod Command
 pub mod Ends
+pub mod RunFarm
+pub mod Commands

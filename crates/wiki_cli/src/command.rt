@@ -1,15 +1,75 @@
 // The command words.
-ghost use Rattle.std.specs.Prelude.{◌≡◌};
-ghost use Rattle.wiki_cli.specs.Command.{is_command};
+ghost use Rattle.std.specs.Prelude.{◌≡◌, ◌≤◌, IfSome};
+ghost use Rattle.drill_script.specs.Words.{number_of};
+ghost use Rattle.wiki_cli.specs.Command.{ReadsCommand, command_by, drill_in, stir_in};
 
+use drill_script::number_of;
+
+/// What all other words are answered.
 pub const USAGE: &[u8] =
     b"usage: wiki drill | wiki stir SEED STEPS | wiki serve [--connections N] [--store PATH]\n";
 
-pub fn is_command(words: &[String]) -> bool
-    ensures { result ≡ is_command words.now }
+/// The greatest seed of a script that is made: 19 digits.
+const SEED_MAX: u64 = 9_999_999_999_999_999_999;
+
+/// The most steps of a script that is made.
+const STEPS_MAX: u64 = 100_000;
+
+/// What the program is to do.
+#[derive(Clone, Copy, Debug, PartialEq, Eq)]
+pub enum Command {
+    /// To read a script, run it, and write its report.
+    Drill,
+    /// To make a script from a seed and a number of steps, run it, and write the counts of its answers.
+    Stir { seed: u64, steps: u32 },
+}
+
+/// The command of these words, if they are one. It takes no memory.
+#[tactic(auto, using(crate::proofs::CommandWords::read_so))]
+pub fn read_command(words: &[String]) -> Option<Command>
+    ensures { ReadsCommand result words.now }
+{
+    command_by(words)
+}
+
+fn command_by(words: &[String]) -> Option<Command>
+    ensures { result ≡ command_by words.now }
 {
     match words {
-        [word] => word.as_str() == "drill",
-        _ => false,
+        [word] => read_drill(word.as_str()),
+        [word, seed, steps] => read_stir(word.as_str(), seed.as_str(), steps.as_str()),
+        _ => None,
     }
+}
+
+fn read_drill(word: &str) -> Option<Command>
+    ensures { result ≡ drill_in word.now }
+{
+    if word == "drill" {
+        Some(Command::Drill)
+    } else {
+        None
+    }
+}
+
+fn read_stir(word: &str, seed: &str, steps: &str) -> Option<Command>
+    ensures { result ≡ stir_in word.now seed.now steps.now }
+{
+    if word != "stir" {
+        return None;
+    }
+    let seed = number_in(SEED_MAX, seed)?;
+    let steps = number_in(STEPS_MAX, steps)?;
+    Some(Command::Stir {
+        seed,
+        steps: steps as u32,
+    })
+}
+
+/// A decimal number of at most `most`, without leading zeros.
+fn number_in(most: u64, word: &str) -> Option<u64>
+    ensures value { result ≡ number_of most word.now }
+    ensures bound { IfSome result (λ n. n ≤ most) }
+{
+    number_of(most, word).ok()
 }

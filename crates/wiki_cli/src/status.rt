@@ -5,7 +5,7 @@ ghost use Rattle.wiki_cli.specs.Ends.{exit_number};
 /// How a command ended. The program's exit status is its number.
 #[derive(Clone, Copy, Debug, PartialEq, Eq)]
 pub enum Status {
-    /// The script was read to its end and run, and its report written.
+    /// All was done, and all was written.
     Ok,
     /// The words are no command.
     Usage,
@@ -13,10 +13,14 @@ pub enum Status {
     Script { line: u64 },
     /// A read failed.
     ReadFault,
-    /// A write of the report failed.
+    /// A write of the report or of the summary failed.
     WriteFault,
+    /// The keeper of the history failed before the first step or after the last.
+    StoreFault,
     /// Memory ran out.
     Memory,
+    /// The history that a script was to begin has entries already.
+    NotEmpty { entries: u64 },
 }
 
 impl Status {
@@ -30,7 +34,9 @@ impl Status {
             Status::Script { .. } => 3,
             Status::ReadFault => 4,
             Status::WriteFault => 5,
+            Status::StoreFault => 6,
             Status::Memory => 7,
+            Status::NotEmpty { .. } => 9,
         }
     }
 }

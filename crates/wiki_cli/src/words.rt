@@ -8,7 +8,7 @@ ghost use Rattle.wiki_cli.specs.declared.status.Status.TheVariants.{Usage, Memor
 
 use crate::Status;
 use crate::command::USAGE;
-use crate::drill::refuse;
+use crate::refuse::refuse;
 use farm_base::Sink;
 use std::io;
 

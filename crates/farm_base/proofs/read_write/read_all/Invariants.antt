@@ -8,6 +8,7 @@ invariant-loop-buf g l = record {
   room : length l.buf ≡ 4096;
   taken : Consumes (g.I.Source.left l.fn.source) (g.I.Source.left l.source) l.bytes.items;
   later : g.I.Source.faults l.fn.source ≤ g.I.Source.faults l.source;
+  other : g.I.Source.writing_half l.source ≡ g.I.Source.writing_half l.fn.source;
 }
 
 abbrev pub decreases-loop-buf : goal.decreases-loop-buf

@@ -1,4 +1,4 @@
-use Rattle.std.proofs.Common.{drop, subst, arith}
+use Rattle.std.proofs.Common.{drop, subst, arith, ◌∙◌}
 use Rattle.farm_base.specs.Exposed.{Adds}
 use Rattle.std.proofs.Common.{take}
 use Rattle.farm_base.proofs.Chains.{adds_turn}
@@ -13,4 +13,5 @@ loop-done-preserved g c =
       within = omega (arith, c.in_ok-count.ensures.bound, c.split_at.ensures.back_len);
       added = adds_turn (written c.args.sink.now) (written c.loop-done.sink) (written c.write.new.self) c.args.bytes.now c.loop-done.done c.in_ok-count.count c.loop-done.invariant.added added;
       later = omega (arith, c.in_ok-count.ensures.cause.later, c.loop-done.invariant.later);
+      other = c.in_ok-count.ensures.other ∙ c.loop-done.invariant.other;
     }

@@ -6,7 +6,7 @@ use Rattle.farm_core.specs.FarmParts.{FarmParts}
 use Rattle.farm_core.specs.Runs.{StepsFrom}
 use Rattle.farm_core.proofs.Applying.{apply_goes, apply_kept}
 use Rattle.farm_core.specs.RequestLife.{LeavesRequests}
-use Rattle.farm_core.proofs.Shapes.{same_shape, apply_shape}
+use Rattle.farm_core.proofs.Shapes.{apply_counts, same_shape, apply_shape}
 use Rattle.std.proofs.Common.{refl}
 use Rattle.farm_core.proofs.farm.Farm.apply_now.Goals as goal
 
@@ -31,4 +31,5 @@ returns g c =
       goes = apply_goes content faults cache_of old c.apply.new.keeper c.apply.new.home c.apply.new.west c.args.region c.args.replica c.args.count said c.apply.ensures;
       requests = refl;
       shape = (let s = apply_shape (content old.keeper) (content c.apply.new.keeper) (faults old.keeper) (faults c.apply.new.keeper) old.home old.west c.apply.new.home c.apply.new.west c.args.region c.args.replica c.args.count said c.apply.ensures in same_shape old c.apply.new.keeper old.ledger c.apply.new.home c.apply.new.west old.requests old.last_beat s.0 s.1);
+      counts = apply_counts (content old.keeper) (content c.apply.new.keeper) (faults old.keeper) (faults c.apply.new.keeper) old.home old.west c.apply.new.home c.apply.new.west c.args.region c.args.replica c.args.count said c.apply.ensures;
     })

@@ -1,4 +1,4 @@
-use Rattle.std.proofs.Common.{option_map, subst}
+use Rattle.std.proofs.Common.{arith, option_map, subst}
 use Rattle.wiki_model.specs.Steps.{Step}
 use Rattle.wiki_model.specs.Runs.{One}
 use Rattle.region_state.specs.AsModel.{answer_of, asked_of}
@@ -32,4 +32,5 @@ returns g c =
       goes = arrive_goes content faults cache_of old c.arrive.new.requests.entries c.args.id c.args.asked said c.arrive.ensures;
       requests = arrive_opens old.moments c.args.id c.args.asked old.requests c.arrive.new.requests.entries said c.arrive.ensures;
       shape = same_shape old old.keeper old.ledger old.home old.west c.arrive.new.requests.entries old.last_beat (untouched old.home) (untouched old.west);
+      counts = omega arith;
     })

@@ -6,7 +6,7 @@ use Rattle.farm_core.specs.FarmParts.{FarmParts}
 use Rattle.farm_core.specs.Runs.{StepsFrom}
 use Rattle.farm_core.proofs.Beats.{beat_goes}
 use Rattle.farm_core.specs.RequestLife.{LeavesRequests}
-use Rattle.farm_core.proofs.Shapes.{same_shape, untouched}
+use Rattle.farm_core.proofs.Shapes.{beat_counts, same_shape, untouched}
 use Rattle.farm_core.proofs.farm.Farm.beat_now.Goals as goal
 
 pub returns : goal.returns
@@ -22,4 +22,5 @@ returns g c =
       goes = beat_goes content faults cache_of old c.append_beat.new.keeper c.append_beat.new.last_beat said c.append_beat.ensures;
       requests = refl;
       shape = same_shape old c.append_beat.new.keeper old.ledger old.home old.west old.requests c.append_beat.new.last_beat (untouched old.home) (untouched old.west);
+      counts = beat_counts (content old.keeper) (content c.append_beat.new.keeper) (faults old.keeper) (faults c.append_beat.new.keeper) old.last_beat c.append_beat.new.last_beat old.moments.home said c.append_beat.ensures;
     })

@@ -10,7 +10,7 @@ use Rattle.farm_core.proofs.Beginning.{begin_goes}
 use Rattle.farm_core.proofs.EditsKept.{begin_kept}
 use Rattle.farm_core.specs.RequestLife.{MovesOn, ArrivedEdit, BeginsAt}
 use Rattle.farm_core.proofs.Moving.{begin_moves}
-use Rattle.farm_core.proofs.Shapes.{same_shape, untouched, begin_shape}
+use Rattle.farm_core.proofs.Shapes.{begin_counts, same_shape, untouched, begin_shape}
 use Rattle.farm_core.proofs.farm.Farm.begin_now.Goals as goal
 
 pub invariant_of-self : goal.invariant_of-self
@@ -33,4 +33,5 @@ returns g c =
       goes = begin_goes content faults cache_of old c.begin.new.keeper c.begin.new.ledger c.begin.new.home c.begin.new.requests.entries c.args.id said (subst (λ d. BeginsTo cache_of (content old.keeper) (content c.begin.new.keeper) (g.K.Keeper.faults old.keeper) (g.K.Keeper.faults c.begin.new.keeper) old.home c.begin.new.home old.ledger c.begin.new.ledger old.moments.home d c.args.id old.requests c.begin.new.requests.entries (option_map answer_of c.begin.result) (arrived_edit (open_at old.requests c.args.id))) c.commit_delay.ensures c.begin.ensures);
       requests = begin_moves cache_of (content old.keeper) (content c.begin.new.keeper) (faults old.keeper) (faults c.begin.new.keeper) old.home c.begin.new.home old.ledger c.begin.new.ledger old.moments.home c.commit_delay.result c.args.id old.requests c.begin.new.requests.entries said c.begin.ensures;
       shape = same_shape old c.begin.new.keeper c.begin.new.ledger c.begin.new.home old.west c.begin.new.requests.entries old.last_beat (begin_shape cache_of (content old.keeper) (content c.begin.new.keeper) (faults old.keeper) (faults c.begin.new.keeper) old.home c.begin.new.home old.ledger c.begin.new.ledger old.moments.home c.commit_delay.result c.args.id old.requests c.begin.new.requests.entries said (arrived_edit (open_at old.requests c.args.id)) c.begin.ensures) (untouched old.west);
+      counts = begin_counts cache_of (content old.keeper) (content c.begin.new.keeper) (faults old.keeper) (faults c.begin.new.keeper) old.home c.begin.new.home old.ledger c.begin.new.ledger old.moments.home c.commit_delay.result c.args.id old.requests c.begin.new.requests.entries said (arrived_edit (open_at old.requests c.args.id)) c.begin.ensures;
     })

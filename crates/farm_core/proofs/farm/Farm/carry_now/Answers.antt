@@ -1,4 +1,4 @@
-use Rattle.std.proofs.Common.{option_map, subst}
+use Rattle.std.proofs.Common.{arith, option_map, subst}
 use Rattle.std.specs.Option.{option_copied}
 use Rattle.wiki_model.specs.Steps.{Step}
 use Rattle.wiki_model.specs.Runs.{One}
@@ -41,4 +41,5 @@ returns g c =
           (carries_as cache_of old.west c.carry.new.west old.ledger c.carry.new.ledger c.args.number old.moments.west shown said (row_at old.ledger.rows c.args.number) did);
       requests = refl;
       shape = same_shape old old.keeper c.carry.new.ledger old.home c.carry.new.west old.requests old.last_beat (untouched old.home) (carry_shape cache_of old.west c.carry.new.west old.ledger c.carry.new.ledger c.args.number old.moments.west said c.find_carriage-carriage.result c.carry.ensures);
+      counts = omega arith;
     })

@@ -9,7 +9,7 @@ use Rattle.farm_core.proofs.Committing.{commit_goes}
 use Rattle.farm_core.proofs.EditsKept.{commit_kept, begun_reserved}
 use Rattle.farm_core.specs.RequestLife.{MovesOn, BegunEdit, CommitsAt}
 use Rattle.farm_core.proofs.Moving.{commit_moves}
-use Rattle.farm_core.proofs.Shapes.{same_shape, untouched, commit_shape}
+use Rattle.farm_core.proofs.Shapes.{commit_counts, same_shape, untouched, commit_shape}
 use Rattle.farm_core.proofs.farm.Farm.commit_now.Goals as goal
 
 pub commit-requires-clause-reserved : goal.commit-requires-clause-reserved
@@ -39,4 +39,5 @@ returns g c =
       goes = commit_goes content faults cache_of old c.commit.new.keeper c.commit.new.ledger c.commit.new.home c.commit.new.requests.entries c.args.id said c.commit.ensures;
       requests = commit_moves cache_of (content old.keeper) (content c.commit.new.keeper) (faults old.keeper) (faults c.commit.new.keeper) old.home c.commit.new.home old.ledger c.commit.new.ledger old.moments.home c.args.id old.requests c.commit.new.requests.entries said c.commit.ensures;
       shape = same_shape old c.commit.new.keeper c.commit.new.ledger c.commit.new.home old.west c.commit.new.requests.entries old.last_beat (commit_shape cache_of (content old.keeper) (content c.commit.new.keeper) (faults old.keeper) (faults c.commit.new.keeper) old.home c.commit.new.home old.ledger c.commit.new.ledger old.moments.home c.args.id old.requests c.commit.new.requests.entries said (begun_edit (open_at old.requests c.args.id)) c.commit.ensures) (untouched old.west);
+      counts = commit_counts cache_of (content old.keeper) (content c.commit.new.keeper) (faults old.keeper) (faults c.commit.new.keeper) old.home c.commit.new.home old.ledger c.commit.new.ledger old.moments.home c.args.id old.requests c.commit.new.requests.entries said (begun_edit (open_at old.requests c.args.id)) c.commit.ensures;
     })

@@ -1,4 +1,4 @@
-use Rattle.std.proofs.Common.{refl, option_map, subst}
+use Rattle.std.proofs.Common.{arith, refl, option_map, subst}
 use Rattle.wiki_model.specs.Steps.{Step}
 use Rattle.wiki_model.specs.Runs.{One}
 use Rattle.purge_relay.specs.Ledger.{row_at}
@@ -30,4 +30,5 @@ returns g c =
       goes = drop_goes content faults cache_of old c.drop_message.new.ledger c.args.number said c.drop_message.ensures;
       requests = refl;
       shape = same_shape old old.keeper c.drop_message.new.ledger old.home old.west old.requests old.last_beat (untouched old.home) (untouched old.west);
+      counts = omega arith;
     })

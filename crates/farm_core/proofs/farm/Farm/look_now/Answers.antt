@@ -1,4 +1,4 @@
-use Rattle.std.proofs.Common.{option_map, sym, subst}
+use Rattle.std.proofs.Common.{arith, option_map, sym, subst}
 use Rattle.wiki_model.specs.Steps.{Step}
 use Rattle.wiki_model.specs.Runs.{One}
 use Rattle.region_state.specs.AsModel.{answer_of}
@@ -36,4 +36,5 @@ returns g c =
       goes = look_goes content faults cache_of old c.look.new.requests.entries c.args.id said c.look.ensures;
       requests = look_moves cache_of old.home old.west old.moments c.args.id old.requests c.look.new.requests.entries said (whole_there old (subst (λ (f : FarmParts g.row.K.Denot g.row.S.Denot). IsWhole f) (sym c.self.view_is) c.requires)) c.look.ensures;
       shape = same_shape old old.keeper old.ledger old.home old.west c.look.new.requests.entries old.last_beat (untouched old.home) (untouched old.west);
+      counts = omega arith;
     })

@@ -1,4 +1,4 @@
-use Rattle.std.proofs.Common.{None, sym, subst}
+use Rattle.std.proofs.Common.{arith, None, sym, subst}
 use Rattle.wiki_model.specs.Steps.{Step}
 use Rattle.wiki_model.specs.Runs.{One}
 use Rattle.farm_steps.specs.RequestMap.{open_at, waited_view}
@@ -30,4 +30,5 @@ returns g c =
       goes = need_goes content faults cache_of old c.need.new.requests.entries c.args.id c.need.ensures.does;
       requests = subst (λ n. ClosesWaited c.args.id n old.requests c.need.new.requests.entries) (sym c.need.ensures.need) (need_closes c.args.id old.requests c.need.new.requests.entries c.need.ensures.does);
       shape = same_shape old old.keeper old.ledger old.home old.west c.need.new.requests.entries old.last_beat (untouched old.home) (untouched old.west);
+      counts = omega arith;
     })

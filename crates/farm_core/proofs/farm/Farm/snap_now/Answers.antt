@@ -1,4 +1,4 @@
-use Rattle.std.proofs.Common.{option_map, subst}
+use Rattle.std.proofs.Common.{arith, option_map, subst}
 use Rattle.wiki_model.specs.Steps.{Step}
 use Rattle.wiki_model.specs.Runs.{One}
 use Rattle.region_state.specs.AsModel.{answer_of}
@@ -34,4 +34,5 @@ returns g c =
       goes = snap_goes content faults cache_of old c.snap.new.requests.entries c.args.id said c.snap.ensures;
       requests = snap_moves old.home old.west old.moments c.args.id old.requests c.snap.new.requests.entries said c.snap.ensures;
       shape = same_shape old old.keeper old.ledger old.home old.west c.snap.new.requests.entries old.last_beat (untouched old.home) (untouched old.west);
+      counts = omega arith;
     })

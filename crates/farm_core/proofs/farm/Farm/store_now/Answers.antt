@@ -1,4 +1,4 @@
-use Rattle.std.proofs.Common.{Some, subst}
+use Rattle.std.proofs.Common.{arith, Some, subst}
 use Rattle.wiki_model.specs.Steps.{Step}
 use Rattle.wiki_model.specs.Runs.{One}
 use Rattle.region_state.specs.AsModel.{answer_of}
@@ -33,4 +33,5 @@ returns g c =
       goes = store_goes content faults cache_of old c.store.new.home c.store.new.west c.store.new.requests.entries c.args.id said c.store.ensures;
       requests = store_moves cache_of old.home old.west c.store.new.home c.store.new.west old.moments c.args.id old.requests c.store.new.requests.entries said c.store.ensures;
       shape = (let s = store_shape cache_of old.home old.west c.store.new.home c.store.new.west old.moments c.args.id old.requests c.store.new.requests.entries said (snapped_view (open_at old.requests c.args.id)) c.store.ensures in same_shape old old.keeper old.ledger c.store.new.home c.store.new.west c.store.new.requests.entries old.last_beat s.0 s.1);
+      counts = omega arith;
     })

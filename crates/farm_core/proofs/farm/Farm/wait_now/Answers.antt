@@ -1,4 +1,4 @@
-use Rattle.std.proofs.Common.{option_map, subst}
+use Rattle.std.proofs.Common.{arith, option_map, subst}
 use Rattle.wiki_model.specs.Steps.{Step}
 use Rattle.wiki_model.specs.Runs.{One}
 use Rattle.region_state.specs.AsModel.{answer_of}
@@ -35,4 +35,5 @@ returns g c =
       goes = wait_goes content faults cache_of old c.wait.new.requests.entries c.args.id c.args.last said c.wait.ensures;
       requests = wait_moves old.home old.west old.moments c.args.id c.args.last old.requests c.wait.new.requests.entries said c.wait.ensures;
       shape = same_shape old old.keeper old.ledger old.home old.west c.wait.new.requests.entries old.last_beat (untouched old.home) (untouched old.west);
+      counts = omega arith;
     })

@@ -1,6 +1,0 @@
-pub mod Reading
-pub mod Script
-pub mod Lines
-pub mod Runs
-pub mod Texts
-pub mod Report

@@ -1,0 +1,80 @@
+// A keeper of which calls of `start` and `len` fail.
+ghost use Rattle.std.specs.Prelude.{Some};
+
+use commit_feed::{Entry, Writes};
+use farm_base::FailingCalls;
+use revision_keeper::{KeepFault, Keeper, MemKeeper};
+use std::alloc::Global;
+use wiki_titles::{ClientId, Title, Token};
+
+/// An empty keeper in memory. The calls of `start` and of `len` in its lists fail, counted from 1; each failure is counted.
+#[derive(Drop)]
+pub struct FailingKeeper {
+    inner: MemKeeper,
+    starts: FailingCalls,
+    lens: FailingCalls,
+    faults: u64,
+}
+
+impl FailingKeeper {
+    pub fn new(alloc: Global, starts: Vec<u64>, lens: Vec<u64>) -> Self {
+        FailingKeeper {
+            inner: MemKeeper::new(alloc),
+            starts: FailingCalls::new(starts),
+            lens: FailingCalls::new(lens),
+            faults: 0,
+        }
+    }
+
+    fn fault(&mut self) -> KeepFault {
+        self.faults = self.faults.saturating_add(1);
+        KeepFault::Fault
+    }
+}
+
+impl Keeper for FailingKeeper {
+    ghost content = { λ k. Some k.inner.history };
+
+    ghost faults = { λ k. k.faults };
+
+    fn start(&mut self) -> Result<(), KeepFault> {
+        if self.starts.next_fails() {
+            return Err(self.fault());
+        }
+        self.inner.start()
+    }
+
+    fn len(&mut self) -> Result<u64, KeepFault> {
+        if self.lens.next_fails() {
+            return Err(self.fault());
+        }
+        self.inner.len()
+    }
+
+    fn entry(&mut self, n: u64) -> Result<Option<Entry>, KeepFault> {
+        self.inner.entry(n)
+    }
+
+    fn latest(&mut self, title: &Title, upto: u64) -> Result<Option<u64>, KeepFault> {
+        self.inner.latest(title, upto)
+    }
+
+    fn by_token(&mut self, client: &ClientId, token: &Token) -> Result<Option<u64>, KeepFault> {
+        self.inner.by_token(client, token)
+    }
+
+    fn writes_of(&mut self, client: &ClientId) -> Result<Writes, KeepFault> {
+        self.inner.writes_of(client)
+    }
+
+    fn append(&mut self, entry: Entry) -> Result<u64, KeepFault> {
+        match self.inner.append(entry) {
+            Err(KeepFault::Fault) => Err(self.fault()),
+            other => other,
+        }
+    }
+
+    fn known(&self) {
+        self.inner.known();
+    }
+}

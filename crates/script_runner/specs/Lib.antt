@@ -1,0 +1,4 @@
+pub mod MakeLine
+pub mod RunSoFar
+pub mod RunScript
+pub mod Openings

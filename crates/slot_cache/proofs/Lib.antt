@@ -1,0 +1,4 @@
+mod Rows
+mod Begins
+mod Puts
+mod Purges

@@ -1,0 +1,4 @@
+pub mod Slots
+pub mod SlotRow
+pub mod SlotCache
+pub mod AsModel

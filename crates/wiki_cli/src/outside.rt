@@ -1,0 +1,194 @@
+// The top call.
+ghost use Rattle.std.specs.Prelude.{◌≡◌, ◌⊎◌, ◌↔◌, ℕ, [], List, Some, IsSome, IfSome};
+ghost use Rattle.std.specs.Io.KnownBytes.{IsAtEnd};
+ghost use Rattle.wiki_model.specs.Steps.{Rose};
+ghost use Rattle.wiki_model.specs.Script.{Line, IsScript};
+ghost use Rattle.wiki_cli.specs.Command.{AreWordsOf, AreNoCommand};
+ghost use Rattle.wiki_cli.specs.Ends.{Says, Drills, Stirs, IsRefusedBy, IsNotEmpty, HasRisen, IsExposed};
+ghost use Rattle.wiki_cli.specs.RunFarm.{kept_by};
+ghost use Rattle.wiki_cli.specs.Commands.{CountsEntries, OfKeepers};
+ghost use Rattle.wiki_cli.specs.declared.command.Command.TheVariants.{Drill, Stir};
+ghost use Rattle.wiki_cli.specs.declared.status.Status.TheVariants.{Ok as Done, Usage, ReadFault, Memory as OutOfMemory};
+
+use crate::Status;
+use crate::command::{USAGE, read_command};
+use crate::commands::perform;
+use crate::refuse::refuse;
+use farm_base::{Clock, Door, Lots, Sink, Source};
+use purge_relay::Wire;
+use revision_keeper::Keeper;
+use std::alloc::Global;
+
+/// All that lies outside the program: where a script or a layout comes from and where a report goes, where connections come
+/// from, the history, the clocks, random words, and the wire between the regions.
+#[derive(Drop)]
+pub struct Outside<I: Drop, O: Drop, D: Drop, K: Drop, C: Drop, L: Drop, W: Drop> {
+    pub source: I,
+    pub sink: O,
+    pub door: D,
+    /// The keeper of the history. It is there at each call, and is given back.
+    pub keeper: Option<K>,
+    pub clock: C,
+    pub lots: L,
+    pub wire: W,
+}
+
+/// Does what the words say.
+fn run_words<I, O, D, K, C, L, W>(
+    alloc: Global,
+    words: &[String],
+    outside: &mut Outside<I, O, D, K, C, L, W>,
+) -> Status
+where
+    I: Source + Drop,
+    O: Sink + Drop,
+    D: Door + Drop,
+    K: Keeper + Drop,
+    C: Clock + Drop,
+    L: Lots + Drop,
+    W: Wire + Drop,
+    requires keeper { IsSome outside.old.keeper }
+    // The keeper is given back.
+    ensures keeper { IsSome outside.new.keeper }
+
+    // The words are refused exactly if they are no command.
+    ensures words { (result ≡ Usage) ↔ AreNoCommand words.now }
+
+    // A refusal writes its own line, or a prefix of it if a write failed.
+    ensures says { Says (Rose (O.faults outside.old.sink) (O.faults outside.new.sink))
+        (O.written outside.old.sink) (O.written outside.new.sink) result }
+
+    // A script is refused by its first line outside the grammar.
+    ensures script { IfSome (I.left outside.old.source) (λ input. IsRefusedBy input result) }
+
+    // The bytes read are a script, and what is written is the report of a run of its steps from an empty history, or a
+    // prefix of it if a write failed or memory ran out.
+    ensures drill { AreWordsOf Drill words.now → IfSome (I.left outside.old.source) (λ input.
+        OfKeepers outside.old.keeper outside.new.keeper (λ before after. K.content before ≡ Some []
+        → Drills input (K.faults before) (kept_by K.content K.faults after)
+        (Rose (O.faults outside.old.sink) (O.faults outside.new.sink))
+        (O.written outside.old.sink) (O.written outside.new.sink) result)) }
+
+    // What is written counts the answers of a run of the script that the numbers make.
+    ensures stir { (seed steps : ℕ) → AreWordsOf (Stir seed steps) words.now
+        → OfKeepers outside.old.keeper outside.new.keeper (λ before after. K.content before ≡ Some []
+        → Stirs seed steps (K.faults before) (kept_by K.content K.faults after)
+        (Rose (O.faults outside.old.sink) (O.faults outside.new.sink))
+        (O.written outside.old.sink) (O.written outside.new.sink) result) }
+
+    // Nothing is run on a history that has entries.
+    ensures not_empty { (AreNoCommand words.now → ⊥) → OfKeepers outside.old.keeper outside.new.keeper (λ before after.
+        IfSome (K.content before) (λ history. IsNotEmpty history result)) }
+    ensures entries { OfKeepers outside.old.keeper outside.new.keeper (λ before after.
+        IfSome (K.content before) (λ history. CountsEntries history result)) }
+
+    // A fault is named only if its count rose.
+    ensures read { result ≡ ReadFault → Rose (I.faults outside.old.source) (I.faults outside.new.source) }
+    ensures cause { OfKeepers outside.old.keeper outside.new.keeper (λ before after.
+        HasRisen (Rose (O.faults outside.old.sink) (O.faults outside.new.sink))
+        (Rose (K.faults before) (K.faults after)) result) }
+
+    // A script that was run was read to its end.
+    ensures read_out { AreWordsOf Drill words.now
+        → OfKeepers outside.old.keeper outside.new.keeper (λ before after. K.content before ≡ Some []
+        → result ≡ Done → IsAtEnd (I.left outside.new.source)) }
+{
+    let Some(command) = read_command(words) else {
+        return refuse(&mut outside.sink, USAGE, Status::Usage);
+    };
+    let keeper = outside.keeper.take().unwrap();
+    let ended = perform(
+        alloc,
+        command,
+        &mut outside.source,
+        keeper,
+        &mut outside.sink,
+    );
+    outside.keeper = Some(ended.keeper);
+    ended.status
+}
+
+/// All that the program does.
+///
+/// With the word `drill` the whole script is read first; then all its steps are made from an empty history, and the report is
+/// written as the answers come. If a write fails nothing more is written, and the steps are made all the same. With
+/// `stir SEED STEPS` the script is made instead of read, and what is written is one line with the counts of its answers.
+///
+/// Nothing is said of when memory runs out.
+pub fn run<I, O, D, K, C, L, W>(
+    alloc: Global,
+    words: &[String],
+    outside: &mut Outside<I, O, D, K, C, L, W>,
+) -> Status
+where
+    I: Source + Drop,
+    O: Sink + Drop,
+    D: Door + Drop,
+    K: Keeper + Drop,
+    C: Clock + Drop,
+    L: Lots + Drop,
+    W: Wire + Drop,
+    requires keeper { IsSome outside.old.keeper }
+    // The keeper is given back.
+    ensures keeper { IsSome outside.new.keeper }
+
+    // The words are refused exactly if they are no command.
+    ensures words { (result ≡ Usage) ↔ AreNoCommand words.now }
+
+    // A refusal writes its own line, or a prefix of it if a write failed.
+    ensures says { Says (Rose (O.faults outside.old.sink) (O.faults outside.new.sink))
+        (O.written outside.old.sink) (O.written outside.new.sink) result }
+
+    // A script is refused by its first line outside the grammar.
+    ensures script { IfSome (I.left outside.old.source) (λ input. IsRefusedBy input result) }
+
+    // The bytes read are a script, and what is written is the report of a run of its steps from an empty history, or a
+    // prefix of it if a write failed or memory ran out.
+    ensures drill { AreWordsOf Drill words.now → IfSome (I.left outside.old.source) (λ input.
+        OfKeepers outside.old.keeper outside.new.keeper (λ before after. K.content before ≡ Some []
+        → Drills input (K.faults before) (kept_by K.content K.faults after)
+        (Rose (O.faults outside.old.sink) (O.faults outside.new.sink))
+        (O.written outside.old.sink) (O.written outside.new.sink) result)) }
+
+    // What is written counts the answers of a run of the script that the numbers make.
+    ensures stir { (seed steps : ℕ) → AreWordsOf (Stir seed steps) words.now
+        → OfKeepers outside.old.keeper outside.new.keeper (λ before after. K.content before ≡ Some []
+        → Stirs seed steps (K.faults before) (kept_by K.content K.faults after)
+        (Rose (O.faults outside.old.sink) (O.faults outside.new.sink))
+        (O.written outside.old.sink) (O.written outside.new.sink) result) }
+
+    // Nothing is run on a history that has entries.
+    ensures not_empty { (AreNoCommand words.now → ⊥) → OfKeepers outside.old.keeper outside.new.keeper (λ before after.
+        IfSome (K.content before) (λ history. IsNotEmpty history result)) }
+    ensures entries { OfKeepers outside.old.keeper outside.new.keeper (λ before after.
+        IfSome (K.content before) (λ history. CountsEntries history result)) }
+
+    // A fault is named only if its count rose.
+    ensures read { result ≡ ReadFault → Rose (I.faults outside.old.source) (I.faults outside.new.source) }
+    ensures cause { OfKeepers outside.old.keeper outside.new.keeper (λ before after.
+        HasRisen (Rose (O.faults outside.old.sink) (O.faults outside.new.sink))
+        (Rose (K.faults before) (K.faults after)) result) }
+
+    // A script that was run was read to its end.
+    ensures read_out { AreWordsOf Drill words.now
+        → OfKeepers outside.old.keeper outside.new.keeper (λ before after. K.content before ≡ Some []
+        → result ≡ Done → IsAtEnd (I.left outside.new.source)) }
+
+    // If nothing fails, a script is run on an empty history and its report written, unless memory runs out.
+    ensures complete_drill { AreWordsOf Drill words.now
+        → IsExposed (I.left outside.old.source) (λ input. (lines : List Line) × IsScript lines input)
+        → OfKeepers outside.old.keeper outside.new.keeper (λ before after.
+        (K.content before ≡ Some []) × (Rose (K.faults before) (K.faults after) → ⊥))
+        → (Rose (I.faults outside.old.source) (I.faults outside.new.source) → ⊥)
+        → (Rose (O.faults outside.old.sink) (O.faults outside.new.sink) → ⊥)
+        → (result ≡ Done) ⊎ (result ≡ OutOfMemory) }
+
+    // So is a script that is made.
+    ensures complete_stir { (seed steps : ℕ) → AreWordsOf (Stir seed steps) words.now
+        → OfKeepers outside.old.keeper outside.new.keeper (λ before after.
+        (K.content before ≡ Some []) × (Rose (K.faults before) (K.faults after) → ⊥))
+        → (Rose (O.faults outside.old.sink) (O.faults outside.new.sink) → ⊥)
+        → (result ≡ Done) ⊎ (result ≡ OutOfMemory) }
+{
+    run_words(alloc, words, outside)
+}
