@@ -19,14 +19,14 @@ use Rattle.replica_apply.specs.Replica.{ReplicaState, IsPrefix}
 use Rattle.chronology_store.specs.AsModel.{rows_in}
 use Rattle.purge_relay.specs.LedgerRow.{receipt_at}
 use Rattle.purge_relay.specs.Ledger.{row_at}
-use Rattle.farm_core.specs.RequestMap.{open_at}
+use Rattle.farm_steps.specs.RequestMap.{open_at}
 use Rattle.farm_core.specs.FarmParts.{FarmParts, IsFarm}
 use Rattle.region_state.specs.RegionState.{RegionParts, with_replica}
 use Rattle.farm_core.specs.Agreement as agreed
 use Rattle.farm_core.specs.Agreement.{Agrees, RegionStands, config_of, ArePrefixes}
 use Rattle.region_state.specs.ApplyEntries.{HasApplied}
-use Rattle.farm_core.specs.ApplyStep.{AppliesIn, apply_answer}
-use Rattle.farm_core.specs.ViewSteps.{region_at, other_region}
+use Rattle.farm_steps.specs.ApplyStep.{AppliesIn, apply_answer}
+use Rattle.farm_steps.specs.ViewSteps.{region_at, other_region}
 use Rattle.farm_core.proofs.Waiting.{site_of}
 use Rattle.farm_core.specs.Runs.{GoesFrom, LeadsTo}
 use Rattle.farm_core.proofs.Following.{Follows as FollowsWorld, agree-later}

@@ -13,10 +13,10 @@ use Rattle.region_state.specs.declared.ask.Asked.{Asked}
 use Rattle.region_state.specs.declared.ask.Asked.TheVariants as asked
 use Rattle.region_state.specs.declared.open_view.OpenView.{OpenView}
 use Rattle.region_state.specs.AsModel.{asked_of, open_view_of}
-use Rattle.farm_core.specs.RequestMap.{Entries, IsRequest, open_at}
+use Rattle.farm_steps.specs.RequestMap.{Entries, IsRequest, open_at}
 use Rattle.farm_core.specs.FarmParts.{FarmParts, IsFarm}
 use Rattle.farm_core.specs.Agreement.{Agrees}
-use Rattle.farm_core.specs.ArriveStep.{Arrives, open_of, region_for}
+use Rattle.farm_steps.specs.ArriveStep.{Arrives, open_of, region_for}
 use Rattle.farm_core.specs.Runs.{GoesFrom}
 use Rattle.farm_core.proofs.Following.{agree-later}
 use Rattle.farm_core.proofs.Points.{placed}

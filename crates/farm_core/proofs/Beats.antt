@@ -12,7 +12,7 @@ use Rattle.wiki_model.specs.Runs.{One, with_faults}
 use Rattle.wiki_model.proofs.HistoryLaws.{history-push_beat, stamp-last, length-push}
 use Rattle.purge_relay.specs.LedgerRow.{receipt_at}
 use Rattle.purge_relay.specs.Ledger.{row_at}
-use Rattle.farm_core.specs.RequestMap.{open_at}
+use Rattle.farm_steps.specs.RequestMap.{open_at}
 use Rattle.farm_core.specs.FarmParts.{FarmParts}
 use Rattle.farm_core.specs.Agreement.{Agrees, receipt_in, last_beat_in}
 use Rattle.farm_core.specs.Runs.{GoesFrom}

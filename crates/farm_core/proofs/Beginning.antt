@@ -30,13 +30,13 @@ use Rattle.edit_core.specs.declared.begun_edit.Begun.TheVariants.{Started, Alrea
 use Rattle.edit_core.specs.AsModel.{edit_of, saved_of}
 use Rattle.edit_core.specs.EditState.{EditState, HasStoreFault, state_of}
 use Rattle.edit_core.specs.BeginEdit as edits
-use Rattle.farm_core.specs.RequestMap.{Entries, Places, open_at, arrived_edit, IsBegun}
-use Rattle.farm_core.specs.declared.open_request.OpenRequest.TheVariants as point
+use Rattle.farm_steps.specs.RequestMap.{Entries, Places, open_at, arrived_edit, IsBegun}
+use Rattle.farm_steps.specs.declared.open_request.OpenRequest.TheVariants as point
 use Rattle.farm_core.specs.FarmParts.{FarmParts}
 use Rattle.region_state.specs.RegionState.{RegionParts}
-use Rattle.farm_core.specs.RelaySteps.{TakesRow}
+use Rattle.farm_steps.specs.RelaySteps.{TakesRow}
 use Rattle.region_state.specs.RegionState.{with_positions}
-use Rattle.farm_core.specs.EditSteps.{EndsBegin, BeginsTo}
+use Rattle.farm_steps.specs.EditSteps.{EndsBegin, BeginsTo}
 use Rattle.farm_core.specs.Agreement.{Agrees}
 use Rattle.farm_core.specs.Runs.{GoesFrom, LeadsTo}
 use Rattle.farm_core.proofs.Following.{Follows, issued-more}

@@ -13,11 +13,11 @@ use Rattle.purge_relay.specs.declared.ledger_row.LedgerRow.{LedgerRow}
 use Rattle.purge_relay.specs.LedgerRow.{is_dropped_row}
 use Rattle.purge_relay.specs.Ledger.{LedgerState, row_at}
 use Rattle.purge_relay.specs.AsModel.{body_of}
-use Rattle.farm_core.specs.declared.relay_steps.Carriage.{Carriage}
-use Rattle.farm_core.specs.declared.relay_steps.Carriage.TheVariants as carriage
+use Rattle.farm_steps.specs.declared.relay_steps.Carriage.{Carriage}
+use Rattle.farm_steps.specs.declared.relay_steps.Carriage.TheVariants as carriage
 use Rattle.farm_core.specs.FarmParts.{FarmParts, IsFarm}
 use Rattle.region_state.specs.RegionState.{RegionParts, IsBefore}
-use Rattle.farm_core.specs.RelaySteps.{Carries, CarriesIf, CarriesShown, CarriesBody, CarriesAs, TakesRow, TakesBody, carriage_of, carriage_in, shows}
+use Rattle.farm_steps.specs.RelaySteps.{Carries, CarriesIf, CarriesShown, CarriesBody, CarriesAs, TakesRow, TakesBody, carriage_of, carriage_in, shows}
 
 -- the two ways to say what is carried
 pub carries_as : {S : Type 0} (cache_of : S → CacheMap Bytes) (before after : RegionParts S) (old new : LedgerState) (number now : ℕ) (shown : Option world.Body) (answer : Option Answer) (found : Option LedgerRow)

@@ -27,11 +27,11 @@ use Rattle.purge_relay.specs.AsModel.{body_of}
 use Rattle.chronology_store.specs.PositionRow.{with_told}
 use Rattle.chronology_store.specs.ChronologyStore.{Positions, Changes}
 use Rattle.purge_relay.specs.AsModel.{row_message}
-use Rattle.farm_core.specs.RequestMap.{open_at}
+use Rattle.farm_steps.specs.RequestMap.{open_at}
 use Rattle.farm_core.specs.FarmParts.{FarmParts}
 use Rattle.region_state.specs.RegionState.{RegionParts}
 use Rattle.farm_core.specs.Agreement.{Agrees, RegionStands, receipt_in}
-use Rattle.farm_core.specs.RelaySteps.{Carries, CarriesIf, CarriesShown, CarriesBody, shows, TakesRow, TakesBody, Hears}
+use Rattle.farm_steps.specs.RelaySteps.{Carries, CarriesIf, CarriesShown, CarriesBody, shows, TakesRow, TakesBody, Hears}
 use Rattle.farm_core.specs.Runs.{GoesFrom, LeadsTo}
 use Rattle.farm_core.proofs.Following.{Follows, agree-later}
 use Rattle.farm_core.proofs.Standing.{IsStill, stands-still}

@@ -40,12 +40,12 @@ use Rattle.edit_core.specs.declared.begun_edit.BegunEdit.{BegunEdit}
 use Rattle.edit_core.specs.AsModel.{edit_of, saved_of}
 use Rattle.edit_core.specs.EditState.{HasStoreFault, state_of}
 use Rattle.edit_core.specs.CommitEdit.{CommitsWithOutcome, GivesUp, Saves, second_purge}
-use Rattle.farm_core.specs.RequestMap.{Entries, Places, open_at, begun_edit, IsBegun}
+use Rattle.farm_steps.specs.RequestMap.{Entries, Places, open_at, begun_edit, IsBegun}
 use Rattle.farm_core.specs.FarmParts.{FarmParts}
 use Rattle.region_state.specs.RegionState.{RegionParts}
-use Rattle.farm_core.specs.RelaySteps.{TakesRow}
+use Rattle.farm_steps.specs.RelaySteps.{TakesRow}
 use Rattle.region_state.specs.RegionState.{with_positions}
-use Rattle.farm_core.specs.EditSteps.{outcome_answer, second_purge_in, ReceivesSecond, CommitsTo, LeavesAll}
+use Rattle.farm_steps.specs.EditSteps.{outcome_answer, second_purge_in, ReceivesSecond, CommitsTo, LeavesAll}
 use Rattle.farm_core.specs.Agreement as agreed
 use Rattle.farm_core.specs.Agreement.{Agrees, RegionStands, last_beat_in}
 use Rattle.farm_core.specs.Runs.{GoesFrom, LeadsTo}

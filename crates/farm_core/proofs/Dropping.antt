@@ -17,13 +17,13 @@ use Rattle.purge_relay.specs.LedgerRow.{dropped, receipt_at}
 use Rattle.purge_relay.specs.Ledger.{LedgerState, row_at, with_row, changed_at}
 use Rattle.region_state.specs.declared.open_view.OpenView.{OpenView}
 use Rattle.purge_relay.specs.AsModel.{row_message}
-use Rattle.farm_core.specs.RequestMap.{Entries, open_at, waited_view}
+use Rattle.farm_steps.specs.RequestMap.{Entries, open_at, waited_view}
 use Rattle.farm_core.proofs.Keeping.{ledger_kept}
 use Rattle.farm_core.specs.FarmParts.{FarmParts, IsFarm}
 use Rattle.farm_core.specs.Agreement as agreed
 use Rattle.farm_core.specs.Agreement.{Agrees}
-use Rattle.farm_core.specs.RelaySteps.{Drops}
-use Rattle.farm_core.specs.ViewSteps.{Needs}
+use Rattle.farm_steps.specs.RelaySteps.{Drops}
+use Rattle.farm_steps.specs.ViewSteps.{Needs}
 use Rattle.farm_core.specs.Runs.{GoesFrom, LeadsTo}
 use Rattle.farm_core.proofs.Following.{Follows, agree-later}
 use Rattle.farm_core.proofs.Standing.{stands-still}

@@ -29,12 +29,12 @@ use Rattle.edit_core.specs.EditState.{EditState, state_of}
 use Rattle.edit_core.specs.CommitEdit.{CommitsWithOutcome, GivesUp, Saves}
 use Rattle.edit_core.specs.BeginEdit.{Begins}
 use Rattle.region_state.specs.RegionState.{RegionParts, IsBefore, with_positions}
-use Rattle.farm_core.specs.declared.open_request.OpenRequest.{OpenRequest}
-use Rattle.farm_core.specs.declared.open_request.OpenRequest.TheVariants as point
-use Rattle.farm_core.specs.RequestMap.{Entries, Places, open_at, unless_taken, begun_edit, room}
+use Rattle.farm_steps.specs.declared.open_request.OpenRequest.{OpenRequest}
+use Rattle.farm_steps.specs.declared.open_request.OpenRequest.TheVariants as point
+use Rattle.farm_steps.specs.RequestMap.{Entries, Places, open_at, unless_taken, begun_edit, room}
 use Rattle.farm_core.specs.FarmParts.{FarmParts, IsFarm}
-use Rattle.farm_core.specs.RelaySteps.{TakesRow, TakesBody}
-use Rattle.farm_core.specs.EditSteps.{second_purge_in, ReceivesSecond, CommitsTo, EndsBegin, BeginsTo}
+use Rattle.farm_steps.specs.RelaySteps.{TakesRow, TakesBody}
+use Rattle.farm_steps.specs.EditSteps.{second_purge_in, ReceivesSecond, CommitsTo, EndsBegin, BeginsTo}
 use Rattle.farm_core.proofs.Carriages.{row_before}
 use Rattle.farm_core.proofs.Keeping.{NoMoreBegun, none_begun, same_begun}
 

@@ -11,9 +11,9 @@ use Rattle.wiki_model.specs.World.{World, Setting, Request, message_at}
 use Rattle.wiki_model.specs.HoldOff.{IsIssued}
 use Rattle.wiki_model.proofs.HistoryGrowth.{html-grows, stamp-grows}
 use Rattle.replica_apply.specs.declared.snapshot.Snapshot.{Snapshot}
-use Rattle.farm_core.specs.declared.open_request.OpenRequest.{OpenRequest}
-use Rattle.farm_core.specs.declared.open_request.OpenRequest.TheVariants as point
-use Rattle.farm_core.specs.RequestMap.{HasPage, IsRequest, AgreeAt}
+use Rattle.farm_steps.specs.declared.open_request.OpenRequest.{OpenRequest}
+use Rattle.farm_steps.specs.declared.open_request.OpenRequest.TheVariants as point
+use Rattle.farm_steps.specs.RequestMap.{HasPage, IsRequest, AgreeAt}
 
 -- From v to w the history only grew, each message is still issued, and the setting stayed.
 pub record Follows (v w : World) : Type 0 where

@@ -30,8 +30,9 @@ use Rattle.purge_relay.specs.Ledger.{LedgerState, row_at, changed_at}
 use Rattle.purge_relay.specs.AsModel.{body_of}
 use Rattle.chronology_store.specs.AsModel.{rows_in}
 use Rattle.purge_relay.specs.AsModel.{row_message}
-use Rattle.farm_core.specs.RequestMap.{open_at}
-use Rattle.farm_core.specs.FarmParts.{FarmParts, moment_of}
+use Rattle.farm_steps.specs.RequestMap.{open_at}
+use Rattle.farm_core.specs.FarmParts.{FarmParts}
+use Rattle.farm_steps.specs.Moments.{moment_of}
 use Rattle.region_state.specs.RegionState.{RegionParts}
 use Rattle.farm_core.specs.Runs.{advanced}
 use Rattle.wiki_model.proofs.ConsistentLaws.{readings-keep}
@@ -39,7 +40,8 @@ use Rattle.farm_core.proofs.Going.{agrees-read, stands-consistent}
 use Rattle.farm_core.proofs.Waiting.{site_of, moment_is}
 use Rattle.farm_core.specs.Agreement as agreed
 use Rattle.farm_core.specs.Agreement.{Agrees, RegionStands}
-use Rattle.farm_core.specs.LendCache.{with_given, without_cache, received_all, purges_of, was_lost, answers_of, round_turn, GivesBack}
+use Rattle.farm_core.specs.LendCache.{with_given, without_cache, purges_of, was_lost, answers_of, round_turn, GivesBack}
+use Rattle.farm_steps.specs.RelaySteps.{received_all}
 use Rattle.region_state.specs.RegionState.{with_cache}
 use Rattle.farm_core.proofs.Following.{Follows, agree-later}
 use Rattle.farm_core.proofs.Standing.{stands-still, site_grown, rows_moments}
@@ -254,7 +256,7 @@ given_agrees {K} {S} content faults cache_of farm r before after now jobs lost a
         moments West = is.moments West
 
     agreed_at : (id : ℕ) → Option world.Request → Type 0
-    agreed_at id q = Rattle.farm_core.specs.RequestMap.AgreeAt (with_faults (faults farm.keeper) (rounded r jobs lost answers v)) (open_at farm.requests id) q
+    agreed_at id q = Rattle.farm_steps.specs.RequestMap.AgreeAt (with_faults (faults farm.keeper) (rounded r jobs lost answers v)) (open_at farm.requests id) q
 
     ledger : LedgerAgrees (received_all r now (purges_of jobs) farm.ledger).rows (received r jobs v)
     ledger = ledger_after r jobs v farm.ledger now at all (record { messages = a.messages; receipts = a.receipts })

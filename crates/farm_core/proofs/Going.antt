@@ -12,7 +12,7 @@ use Rattle.wiki_model.specs.Steps.{Step}
 use Rattle.wiki_model.specs.Runs.{Turn, Reply, IsRun, Leads}
 use Rattle.wiki_model.proofs.ConsistentLaws.{readings-keep}
 use Rattle.wiki_model.proofs.StepLaws.{opened-run-keeps}
-use Rattle.farm_core.specs.RequestMap.{Entries, open_at}
+use Rattle.farm_steps.specs.RequestMap.{Entries, open_at}
 use Rattle.farm_core.specs.FarmParts.{FarmParts}
 use Rattle.farm_core.specs.Agreement.{Agrees}
 use Rattle.farm_core.specs.Runs.{Stands, GoesOnBy, GoesFrom, Steps, StepsFrom, advanced}

@@ -13,7 +13,7 @@ use Rattle.purge_relay.specs.Ledger.{LedgerState, row_at}
 use Rattle.chronology_store.specs.AsModel.{rows_in}
 use Rattle.purge_relay.specs.AsModel.{row_message}
 use Rattle.region_state.specs.AsModel.{IsPlanOf}
-use Rattle.farm_core.specs.RequestMap.{Entries}
+use Rattle.farm_steps.specs.RequestMap.{Entries}
 use Rattle.farm_core.specs.FarmParts.{FarmParts, with_region_cache}
 use Rattle.region_state.specs.RegionState.{RegionParts}
 use Rattle.farm_core.specs.Agreement.{Agrees, RegionStands, ArePrefixes, config_of, receipt_in, last_beat_in}

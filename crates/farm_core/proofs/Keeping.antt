@@ -14,14 +14,15 @@ use Rattle.edit_core.specs.declared.begun_edit.BegunEdit.{BegunEdit}
 use Rattle.region_state.specs.declared.wait_view.Wait.{Wait}
 use Rattle.region_state.specs.declared.wait_view.Wait.TheVariants as wait
 use Rattle.region_state.specs.declared.open_view.OpenView.{OpenView}
-use Rattle.farm_core.specs.declared.open_request.OpenRequest.{OpenRequest}
-use Rattle.farm_core.specs.declared.open_request.OpenRequest.TheVariants as point
-use Rattle.farm_core.specs.RequestMap.{Entries, open_at, unless_taken, room, room_at, Places}
+use Rattle.farm_steps.specs.declared.open_request.OpenRequest.{OpenRequest}
+use Rattle.farm_steps.specs.declared.open_request.OpenRequest.TheVariants as point
+use Rattle.farm_steps.specs.RequestMap.{Entries, open_at, unless_taken, room, room_at, Places}
 use Rattle.region_state.specs.WaitView.{waits, known_in, lag_in}
 use Rattle.region_state.specs.SnapView.{ask_for}
 use Rattle.region_state.specs.StoreView.{StoresIn, StoresAt, StoresBy}
 use Rattle.region_state.specs.StoreView.{rendered}
-use Rattle.farm_core.specs.FarmParts.{FarmParts, IsFarm, IsWhole, moment_of}
+use Rattle.farm_core.specs.FarmParts.{FarmParts, IsFarm, IsWhole}
+use Rattle.farm_steps.specs.Moments.{moment_of}
 use Rattle.region_state.specs.RegionState.{RegionParts, IsBefore}
 use Rattle.wiki_model.specs.declared.Region.{Region}
 use Rattle.wiki_model.specs.declared.Region.TheVariants.{Home, West}
@@ -32,7 +33,7 @@ use Rattle.wiki_model.specs.Answers as model
 use Rattle.replica_apply.specs.declared.snapshot.Snapshot.{Snapshot}
 use Rattle.region_state.specs.declared.snap_view.Snapped.{Snapped}
 use Rattle.chronology_store.specs.ChronologyStore.{is_reserved}
-use Rattle.farm_core.specs.ViewSteps.{Waits, WaitsTo, Looks, LooksTo, StoresTo, region_at, other_region}
+use Rattle.farm_steps.specs.ViewSteps.{Waits, WaitsTo, Looks, LooksTo, StoresTo, region_at, other_region}
 use Rattle.farm_core.specs.Runs.{advanced}
 
 up : (told : Option (List Entry)) (now later : ℕ) → now ≤ later → IfSome told (λ h. stamp_at h (length h) ≤ now) → IfSome told (λ h. stamp_at h (length h) ≤ later)

@@ -7,8 +7,10 @@ use Rattle.wiki_model.specs.History.{Entry}
 use Rattle.wiki_model.specs.Cache.{CacheMap}
 use Rattle.purge_relay.specs.LedgerRow.{with_receipt}
 use Rattle.purge_relay.specs.Ledger.{LedgerState, changed_at}
-use Rattle.farm_core.specs.FarmParts.{FarmParts, IsFarm, moment_of}
-use Rattle.farm_core.specs.LendCache.{without_cache, with_given, received_all}
+use Rattle.farm_core.specs.FarmParts.{FarmParts, IsFarm}
+use Rattle.farm_steps.specs.Moments.{moment_of}
+use Rattle.farm_core.specs.LendCache.{without_cache, with_given}
+use Rattle.farm_steps.specs.RelaySteps.{received_all}
 
 pub lent_kept : {K S : Type 0} (content : K → Option (List Entry)) (cache_of : S → CacheMap Bytes) (r : Region) (old : FarmParts K S) → IsFarm content cache_of old → IsFarm content cache_of (without_cache r old)
 lent_kept content cache_of Home old k = record {

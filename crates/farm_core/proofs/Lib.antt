@@ -1,8 +1,6 @@
-pub mod Rooms
 pub mod Following
 pub mod Standing
 pub mod Points
-pub mod Twice
 pub mod Going
 pub mod Quiet
 pub mod Happening
@@ -23,7 +21,6 @@ pub mod Beginning
 pub mod EditsKept
 pub mod Dropping
 pub mod Snapping
-pub mod Pending
 pub mod Applying
 pub mod Opening
 pub mod Staying

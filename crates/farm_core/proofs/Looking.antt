@@ -15,15 +15,15 @@ use Rattle.wiki_model.specs.Runs.{Reply, One, with_faults}
 use Rattle.wiki_model.specs.Caches.{CacheStands}
 use Rattle.wiki_model.proofs.MissLaws.{look-allowed}
 use Rattle.region_state.specs.declared.open_view.OpenView.{OpenView}
-use Rattle.farm_core.specs.declared.open_request.OpenRequest.TheVariants as point
+use Rattle.farm_steps.specs.declared.open_request.OpenRequest.TheVariants as point
 use Rattle.region_state.specs.AsModel.{open_view_of}
-use Rattle.farm_core.specs.RequestMap.{Entries, open_at, waited_view, Places}
+use Rattle.farm_steps.specs.RequestMap.{Entries, open_at, waited_view, Places}
 use Rattle.farm_core.specs.FarmParts.{FarmParts}
 use Rattle.region_state.specs.RegionState.{RegionParts, RegionConfig}
 use Rattle.region_state.specs.SnapView.{ask_for}
 use Rattle.farm_core.specs.Agreement.{RegionStands}
 use Rattle.farm_core.specs.Runs.{GoesFrom, LeadsTo}
-use Rattle.farm_core.specs.ViewSteps.{Looks, LooksTo, region_at}
+use Rattle.farm_steps.specs.ViewSteps.{Looks, LooksTo, region_at}
 use Rattle.farm_core.proofs.Points.{placed, closed, at_point, no_point, no_waited, is_waited}
 use Rattle.farm_core.proofs.Quiet.{IsQuiet, quiet-follows}
 use Rattle.farm_core.proofs.Waiting.{site_of, moment_is, calm_agrees, none_goes}

@@ -14,7 +14,7 @@ use Rattle.purge_relay.specs.LedgerRow.{receipt_at}
 use Rattle.purge_relay.specs.Ledger.{row_at}
 use Rattle.chronology_store.specs.AsModel.{rows_in}
 use Rattle.farm_core.proofs.Standing.{rows_moments}
-use Rattle.farm_core.specs.RequestMap.{open_at}
+use Rattle.farm_steps.specs.RequestMap.{open_at}
 use Rattle.farm_core.specs.FarmParts.{FarmParts}
 use Rattle.region_state.specs.RegionState.{RegionParts}
 use Rattle.farm_core.specs.Agreement.{RegionStands, receipt_in}

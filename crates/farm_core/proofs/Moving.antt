@@ -28,14 +28,14 @@ use Rattle.region_state.specs.RegionState.{RegionParts}
 use Rattle.region_state.specs.WaitView.{waits, known_in, lag_in}
 use Rattle.region_state.specs.SnapView.{ask_for}
 use Rattle.region_state.specs.StoreView.{StoresAt}
-use Rattle.farm_core.specs.declared.open_request.OpenRequest.{OpenRequest}
-use Rattle.farm_core.specs.declared.open_request.OpenRequest.TheVariants as point
-use Rattle.farm_core.specs.RequestMap.{Entries, Places, open_at, unless_taken, arrived_edit, begun_edit, arrived_view, waited_view, looked_view, snapped_view, need_of}
+use Rattle.farm_steps.specs.declared.open_request.OpenRequest.{OpenRequest}
+use Rattle.farm_steps.specs.declared.open_request.OpenRequest.TheVariants as point
+use Rattle.farm_steps.specs.RequestMap.{Entries, Places, open_at, unless_taken, arrived_edit, begun_edit, arrived_view, waited_view, looked_view, snapped_view, need_of}
 use Rattle.farm_core.specs.RequestLife.{Point, Closed, ArrivedEdit, BegunEdit, ArrivedView, WaitedView, LookedView, SnappedView, point_of, point_at, MovesOn, OpensRequest, ClosesWaited, BeginsAt, CommitsAt, WaitsAt, LooksFrom, SnapsAt, StoresFrom, first_point}
-use Rattle.farm_core.specs.FarmParts.{moment_of}
-use Rattle.farm_core.specs.ViewSteps.{NoneThere, Waits, WaitsTo, Looks, LooksTo, SnapsTo, SnapsView, StoresTo, Needs, region_at}
-use Rattle.farm_core.specs.ArriveStep.{Arrives, open_of}
-use Rattle.farm_core.specs.EditSteps.{BeginsTo, EndsBegin, CommitsTo, outcome_answer}
+use Rattle.farm_steps.specs.Moments.{moment_of}
+use Rattle.farm_steps.specs.ViewSteps.{NoneThere, Waits, WaitsTo, Looks, LooksTo, SnapsTo, SnapsView, StoresTo, Needs, region_at}
+use Rattle.farm_steps.specs.ArriveStep.{Arrives, open_of}
+use Rattle.farm_steps.specs.EditSteps.{BeginsTo, EndsBegin, CommitsTo, outcome_answer}
 
 -- one place was changed
 others_stay : (old new : Entries) (id : ℕ) (now : Option OpenRequest) → Places old new id now → (other : ℕ) → nat_eq other id ≡ false → open_at new other ≡ open_at old other

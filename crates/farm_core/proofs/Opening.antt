@@ -25,7 +25,7 @@ use Rattle.purge_relay.specs.LedgerRow.{receipt_at}
 use Rattle.purge_relay.specs.Ledger.{row_at}
 use Rattle.region_state.specs.AsModel.{IsPlanOf}
 use Rattle.purge_relay.specs.AsModel.{row_message}
-use Rattle.farm_core.specs.RequestMap.{Entries, open_at, AgreeAt}
+use Rattle.farm_steps.specs.RequestMap.{Entries, open_at, AgreeAt}
 use Rattle.farm_core.specs.FarmParts.{FarmParts}
 use Rattle.region_state.specs.RegionState.{RegionParts, RegionConfig}
 use Rattle.farm_core.specs.Agreement.{RegionStands, config_of, receipt_in, last_beat_in}

@@ -13,11 +13,11 @@ use Rattle.edit_core.specs.declared.edit_ask.EditAsk.{EditAsk}
 use Rattle.edit_core.specs.declared.begun_edit.BegunEdit.{BegunEdit}
 use Rattle.region_state.specs.declared.open_view.OpenView.{OpenView as CodeView}
 use Rattle.region_state.specs.declared.snap_view.Snapped.{Snapped}
-use Rattle.farm_core.specs.declared.open_request.OpenRequest.{OpenRequest}
-use Rattle.farm_core.specs.declared.open_request.OpenRequest.TheVariants as point
+use Rattle.farm_steps.specs.declared.open_request.OpenRequest.{OpenRequest}
+use Rattle.farm_steps.specs.declared.open_request.OpenRequest.TheVariants as point
 use Rattle.region_state.specs.AsModel.{open_view_of, snapshot_of}
 use Rattle.edit_core.specs.AsModel.{edit_of}
-use Rattle.farm_core.specs.RequestMap.{Entries, kept_at, open_at, unless_taken, Places, IsRequest, AgreeAt, IsBegun, HasPage, arrived_edit, begun_edit, arrived_view, waited_view, looked_view, snapped_view}
+use Rattle.farm_steps.specs.RequestMap.{Entries, kept_at, open_at, unless_taken, Places, IsRequest, AgreeAt, IsBegun, HasPage, arrived_edit, begun_edit, arrived_view, waited_view, looked_view, snapped_view}
 use Rattle.farm_core.proofs.Following.{Follows, agree-later}
 
 -- a request of the world is none that a step has in its hands
@@ -84,14 +84,6 @@ pub unmoved : (v w : World) (old new : Entries) → Follows v w → w.requests �
 unmoved v w old new follows requests same all id =
     subst (λ q. AgreeAt w (open_at new id) q) (sym (ap (λ (m : world.Requests). get m id) requests))
     (subst (λ x. AgreeAt w x (request_at v id)) (sym (ap (option_and_then unless_taken) (same id))) (agree-later v w follows (open_at old id) (request_at v id) (all id)))
-
--- two changes at one id are one
-pub placed_twice : (old mid new : Entries) (id : ℕ) (now : Option OpenRequest) → Places old mid id (Some point.Taken) → Places mid new id now → Places old new id now
-placed_twice old mid new id now p q = record {
-  here = q.here;
-  others = λ other e. q.others other e ∙ p.others other e;
-  room = let first = p.room in let second = q.room in omega (arith, first, second);
-}
 
 -- A step on a request: the farm has it at its point exactly where the world has.
 

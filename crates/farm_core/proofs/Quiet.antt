@@ -10,7 +10,7 @@ use Rattle.wiki_model.specs.World.{World, Setting, site, message_at}
 use Rattle.purge_relay.specs.LedgerRow.{receipt_at}
 use Rattle.purge_relay.specs.Ledger.{LedgerState, row_at}
 use Rattle.purge_relay.specs.AsModel.{row_message}
-use Rattle.farm_core.specs.RequestMap.{Entries}
+use Rattle.farm_steps.specs.RequestMap.{Entries}
 use Rattle.farm_core.specs.FarmParts.{FarmParts}
 use Rattle.farm_core.specs.Agreement.{Agrees, receipt_in, last_beat_in}
 use Rattle.farm_core.proofs.Following.{Follows}

@@ -24,14 +24,14 @@ use Rattle.edit_core.specs.declared.begun_edit.Begun.TheVariants.{Started, Alrea
 use Rattle.region_state.specs.declared.open_view.OpenView.{OpenView}
 use Rattle.region_state.specs.declared.snap_view.Snapped.{Snapped}
 use Rattle.region_state.specs.RegionState.{RegionParts, with_cache, with_positions, with_replica}
-use Rattle.farm_core.specs.declared.relay_steps.Carriage.{Carriage}
-use Rattle.farm_core.specs.declared.relay_steps.Carriage.TheVariants as carriage
-use Rattle.farm_core.specs.RequestMap.{Entries}
+use Rattle.farm_steps.specs.declared.relay_steps.Carriage.{Carriage}
+use Rattle.farm_steps.specs.declared.relay_steps.Carriage.TheVariants as carriage
+use Rattle.farm_steps.specs.RequestMap.{Entries}
 use Rattle.farm_core.specs.FarmParts.{FarmParts, SameShape}
-use Rattle.farm_core.specs.ViewSteps.{StoresTo, region_at, other_region}
-use Rattle.farm_core.specs.RelaySteps.{TakesRow, TakesBody, CarriesAs}
-use Rattle.farm_core.specs.EditSteps.{BeginsTo, EndsBegin, CommitsTo, ReceivesSecond, second_purge_in}
-use Rattle.farm_core.specs.ApplyStep.{AppliesIn}
+use Rattle.farm_steps.specs.ViewSteps.{StoresTo, region_at, other_region}
+use Rattle.farm_steps.specs.RelaySteps.{TakesRow, TakesBody, CarriesAs}
+use Rattle.farm_steps.specs.EditSteps.{BeginsTo, EndsBegin, CommitsTo, ReceivesSecond, second_purge_in}
+use Rattle.farm_steps.specs.ApplyStep.{AppliesIn}
 use Rattle.farm_core.specs.AppendBeat.{Beats}
 
 -- one region's shape

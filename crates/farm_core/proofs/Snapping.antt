@@ -1,7 +1,6 @@
 -- The step snap goes on with every run.
-use Rattle.std.proofs.Common.{◌≡◌, ℕ, zero, suc, ◌-◌, Bool, true, false, List, [], ◌∷◌, ◌++◌, length, map, take, drop, Option, Some, None, Result, Ok, Err, refl, sym, ap, subst, ◌∙◌, arith, nat_eq}
-use Rattle.std.specs.Prelude.{option_map, option_and_then, slice_get, zip, IsTrue, ◌↔◌, IfOk}
-use Rattle.std.proofs.lemmas.Bool.Decides.{nat_tests}
+use Rattle.std.proofs.Common.{◌≡◌, ℕ, zero, suc, ◌-◌, Bool, true, false, List, [], ◌∷◌, ◌++◌, length, map, take, drop, Option, Some, None, Result, Ok, Err, refl, sym, ap, subst, ◌∙◌, arith}
+use Rattle.std.specs.Prelude.{option_map, slice_get, zip, IsTrue, ◌↔◌, IfOk}
 use Rattle.std.proofs.lemmas.Option.{slice_get-map}
 use Rattle.wiki_model.specs.declared.Region.{Region}
 use Rattle.wiki_model.specs.declared.Region.TheVariants.{Home, West}
@@ -22,20 +21,19 @@ use Rattle.farm_base.specs.declared.memory.Memory.{Memory}
 use Rattle.replica_apply.specs.declared.snapshot.Snapshot.{Snapshot}
 use Rattle.replica_apply.specs.Replica.{ReplicaState, IsPrefixOf}
 use Rattle.replica_apply.specs.Snapshot.{IsOf}
-use Rattle.edit_core.specs.declared.begun_edit.BegunEdit.{BegunEdit}
 use Rattle.region_state.specs.declared.open_view.OpenView.{OpenView}
 use Rattle.region_state.specs.declared.snap_view.Snapped.{Snapped}
-use Rattle.farm_core.specs.declared.open_request.OpenRequest.{OpenRequest}
-use Rattle.farm_core.specs.declared.open_request.OpenRequest.TheVariants as point
+use Rattle.farm_steps.specs.declared.open_request.OpenRequest.{OpenRequest}
+use Rattle.farm_steps.specs.declared.open_request.OpenRequest.TheVariants as point
 use Rattle.region_state.specs.AsModel.{open_view_of, snapshot_of, choice_of}
 use Rattle.region_state.specs.StoreView.{rendered}
-use Rattle.farm_core.specs.RequestMap.{Entries, open_at, looked_view, unless_taken, Places, HasPage, AgreeAt}
+use Rattle.farm_steps.specs.RequestMap.{Entries, open_at, looked_view, HasPage, AgreeAt}
 use Rattle.farm_core.specs.FarmParts.{FarmParts}
 use Rattle.region_state.specs.RegionState.{RegionParts, RegionConfig}
 use Rattle.region_state.specs.SnapView.{seen_rows, SnapsIn}
 use Rattle.farm_core.specs.Agreement.{RegionStands, weights_of}
 use Rattle.farm_core.specs.Runs.{GoesFrom, LeadsTo}
-use Rattle.farm_core.specs.ViewSteps.{SnapsTo, SnapsView, HasBegun, IsPendingIn, region_at}
+use Rattle.farm_steps.specs.ViewSteps.{SnapsTo, SnapsView, HasBegun, IsPendingIn, region_at}
 use Rattle.farm_core.proofs.Points.{placed, closed, at_point, no_point, no_looked, is_looked}
 use Rattle.farm_core.proofs.Quiet.{IsQuiet, quiet-follows}
 use Rattle.farm_core.proofs.Waiting.{site_of, moment_is, calm_agrees, none_goes}
@@ -187,42 +185,3 @@ snapped_begun id view old new answer (Err want) did = none_begun old new id did.
 pub snap_begun : {S : Type 0} (home west : RegionParts S) (at : Rattle.wiki_model.specs.declared.Readings.Readings) (id : ℕ) (old new : Entries) (answer : Option Answer) (found : Option (OpenView × ℕ)) → SnapsTo home west at id old new answer found → NoMoreBegun old new
 snap_begun home west at id old new answer None none = same_begun old new none.1
 snap_begun home west at id old new answer (Some (view, need)) t = snapped_begun id view old new answer t.made t.ends
-
--- a view that was taken from its place begins no edit
-
--- what is begun is the same where a view was taken from its place
-pub begun_taken : (old mid : Entries) (id : ℕ) (found : OpenView × ℕ) → Places old mid id (Some point.Taken) → looked_view (open_at old id) ≡ Some found → (title : Title) → (HasBegun mid title → HasBegun old title) × (HasBegun old title → HasBegun mid title)
-begun_taken old mid id found places is title = (back, forth)
-  where
-    apart : (i : ℕ) (begun : BegunEdit) → open_at old i ≡ Some (point.EditBegun begun) → nat_eq i id ≡ true → ⊥
-    apart i begun at e =
-        let same : i ≡ id = grind (arith, nat_tests, e) in
-        let there : open_at old id ≡ Some (point.EditBegun begun) = ap (open_at old) (sym same) ∙ at in
-        let none : looked_view (Some (point.EditBegun begun)) ≡ Some found = ap looked_view (sym there) ∙ is in cc
-
-    taken : (i : ℕ) (begun : BegunEdit) → open_at mid i ≡ Some (point.EditBegun begun) → nat_eq i id ≡ true → ⊥
-    taken i begun at e =
-        let same : i ≡ id = grind (arith, nat_tests, e) in
-        let there : None ≡ Some (point.EditBegun begun) = sym (ap (option_and_then unless_taken) places.here) ∙ ap (open_at mid) (sym same) ∙ at in cc
-
-    back : HasBegun mid title → HasBegun old title
-    back (i, begun, at, named) = (i, begun, go (nat_eq i id) refl, named)
-      where
-        go : (b : Bool) → nat_eq i id ≡ b → open_at old i ≡ Some (point.EditBegun begun)
-        go true e = absurd (taken i begun at e)
-        go false e = ap (option_and_then unless_taken) (sym (places.others i e)) ∙ at
-
-    forth : HasBegun old title → HasBegun mid title
-    forth (i, begun, at, named) = (i, begun, go (nat_eq i id) refl, named)
-      where
-        go : (b : Bool) → nat_eq i id ≡ b → open_at mid i ≡ Some (point.EditBegun begun)
-        go true e = absurd (apart i begun at e)
-        go false e = ap (option_and_then unless_taken) (places.others i e) ∙ at
-
-pub pending_taken : (old mid : Entries) (id : ℕ) (found : OpenView × ℕ) → Places old mid id (Some point.Taken) → looked_view (open_at old id) ≡ Some found → (r : Region) (title : Title) (pending : Bool) → IsPendingIn r mid title pending → IsPendingIn r old title pending
-pending_taken old mid id found places is Home title pending p = let b = begun_taken old mid id found places is title in (λ yes. b.0 (p.0 yes), λ there. p.1 (b.1 there))
-pending_taken old mid id found places is West title pending p = p
-
-pub snaps_twice : (id : ℕ) (view : OpenView) (old mid new : Entries) (answer : Option Answer) (made : Result Snapped Memory) → Places old mid id (Some point.Taken) → SnapsView id view mid new answer made → SnapsView id view old new answer made
-snaps_twice id view old mid new answer (Ok s) first did = (did.0, Rattle.farm_core.proofs.Points.placed_twice old mid new id (Some (point.ViewSnapped view s)) first did.1)
-snaps_twice id view old mid new answer (Err want) first did = (did.0, Rattle.farm_core.proofs.Points.placed_twice old mid new id None first did.1)

@@ -36,7 +36,7 @@ use Rattle.region_state.specs.declared.open_view.OpenView.{OpenView}
 use Rattle.region_state.specs.declared.snap_view.Snapped.{Snapped}
 use Rattle.region_state.specs.AsModel.{open_view_of, snapshot_of, choice_of}
 use Rattle.region_state.specs.StoreView.{rendered}
-use Rattle.farm_core.specs.RequestMap.{Entries, open_at, snapped_view, Places, HasPage}
+use Rattle.farm_steps.specs.RequestMap.{Entries, open_at, snapped_view, Places, HasPage}
 use Rattle.purge_relay.specs.LedgerRow.{receipt_at}
 use Rattle.purge_relay.specs.Ledger.{row_at}
 use Rattle.wiki_model.specs.declared.Origin.TheVariants as via
@@ -45,7 +45,7 @@ use Rattle.region_state.specs.RegionState.{RegionParts, RegionConfig}
 use Rattle.region_state.specs.StoreView.{StoresAt, StoresBy, value_from, replica_answer}
 use Rattle.farm_core.specs.Agreement.{Agrees, receipt_in}
 use Rattle.farm_core.specs.Runs.{GoesFrom, LeadsTo}
-use Rattle.farm_core.specs.ViewSteps.{StoresTo, region_at, other_region}
+use Rattle.farm_steps.specs.ViewSteps.{StoresTo, region_at, other_region}
 use Rattle.farm_core.proofs.Points.{closed, at_point, no_point, no_snapped, is_snapped}
 use Rattle.farm_core.proofs.Following.{Follows}
 use Rattle.farm_core.proofs.Quiet.{IsQuiet as IsQuietly, quiet-follows}

@@ -15,7 +15,7 @@ use Rattle.chronology_store.specs.ChronologyStore.{Positions, is_reserved}
 use Rattle.chronology_store.specs.AsModel.{rows_in}
 use Rattle.chronology_store.proofs.ModelRows.{sweeps_rows}
 use Rattle.region_state.specs.RegionState.{RegionParts, OnPositions, MaySweep, with_positions}
-use Rattle.farm_core.specs.RequestMap.{Entries}
+use Rattle.farm_steps.specs.RequestMap.{Entries}
 use Rattle.farm_core.specs.FarmParts.{FarmParts, IsFarm}
 use Rattle.farm_core.specs.Agreement.{RegionStands}
 use Rattle.farm_core.specs.Runs.{StepsFrom, Resumes}

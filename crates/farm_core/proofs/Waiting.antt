@@ -13,15 +13,16 @@ use Rattle.wiki_model.specs.Answers.{Answer, NotOpen, Lagging}
 use Rattle.wiki_model.specs.Steps.{Step, gives_up, Waits as MayWait, waited}
 use Rattle.wiki_model.specs.Runs.{Reply, One, with_faults}
 use Rattle.region_state.specs.declared.open_view.OpenView.{OpenView}
-use Rattle.farm_core.specs.declared.open_request.OpenRequest.TheVariants as point
+use Rattle.farm_steps.specs.declared.open_request.OpenRequest.TheVariants as point
 use Rattle.region_state.specs.AsModel.{open_view_of, view_of}
-use Rattle.farm_core.specs.RequestMap.{Entries, open_at, arrived_view}
-use Rattle.farm_core.specs.FarmParts.{FarmParts, moment_of}
+use Rattle.farm_steps.specs.RequestMap.{Entries, open_at, arrived_view}
+use Rattle.farm_core.specs.FarmParts.{FarmParts}
+use Rattle.farm_steps.specs.Moments.{moment_of}
 use Rattle.region_state.specs.RegionState.{RegionParts}
 use Rattle.region_state.specs.WaitView.{known_in, lag_in, waits}
 use Rattle.farm_core.specs.Agreement.{Agrees, RegionStands}
 use Rattle.farm_core.specs.Runs.{GoesFrom, LeadsTo}
-use Rattle.farm_core.specs.ViewSteps.{Waits, WaitsTo, NoneThere, region_at}
+use Rattle.farm_steps.specs.ViewSteps.{Waits, WaitsTo, NoneThere, region_at}
 use Rattle.farm_core.proofs.Points.{AllAgree, placed, closed, put_again, at_point, no_point, no_arrived, is_arrived}
 use Rattle.farm_core.proofs.Quiet.{IsQuiet, agrees-quiet, quiet-follows}
 use Rattle.farm_core.proofs.Known.{known_is}

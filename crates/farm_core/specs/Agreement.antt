@@ -16,7 +16,7 @@ use Rattle.purge_relay.specs.LedgerRow.{receipt_at, received_at}
 use Rattle.purge_relay.specs.Ledger.{row_at}
 use Rattle.region_state.specs.AsModel.{IsPlanOf}
 use Rattle.purge_relay.specs.AsModel.{row_message}
-use Rattle.farm_core.specs.RequestMap.{open_at, AgreeAt}
+use Rattle.farm_steps.specs.RequestMap.{open_at, AgreeAt}
 use Rattle.region_state.specs.RegionState.{RegionConfig, RegionParts}
 use Rattle.farm_core.specs.FarmParts.{FarmParts}
 
@@ -29,9 +29,11 @@ config_of s r = record { weights = weights_of s r; epoch = s.epoch; read_lag = s
 
 -- each replica is a prefix of the history
 abbrev pub ArePrefixes : List Entry → List ReplicaState → Type 0
-ArePrefixes history replicas = (i : ℕ) (kept : ReplicaState) → slice_get replicas i ≡ Some kept → IsPrefixOf history kept
+ArePrefixes history replicas =
+    (i : ℕ) (kept : ReplicaState) → slice_get replicas i ≡ Some kept → IsPrefixOf history kept
 
-pub record RegionStands {S : Type 0} (cache_of : S → CacheMap Bytes) (parts : RegionParts S) (w : World) (r : Region) : Type 0 where
+pub record RegionStands {S : Type 0} (cache_of : S → CacheMap Bytes) (parts : RegionParts S) (w : World)
+    (r : Region) : Type 0 where
   pub config : parts.config ≡ config_of w.setting r
   pub markup : parts.markup ≡ w.markup
   pub applied : map (λ k. k.applied) parts.replicas ≡ (site r w).applied
@@ -43,7 +45,8 @@ pub record RegionStands {S : Type 0} (cache_of : S → CacheMap Bytes) (parts : 
 -- when a region received a purge, by its events, of which the newest is first
 abbrev pub receipt_in : List Event → (purge : ℕ) → Option Receipt
 receipt_in [] purge = None
-receipt_in (Received number title at ∷ events) purge = if number == purge then Some (received_at (receipt_in events purge) at) else receipt_in events purge
+receipt_in (Received number title at ∷ events) purge =
+    if number == purge then Some (received_at (receipt_in events purge) at) else receipt_in events purge
 receipt_in (KeptEvent stored ∷ events) purge = receipt_in events purge
 receipt_in (Rounded batch ∷ events) purge = receipt_in events purge
 
@@ -54,13 +57,15 @@ last_beat_in (Beat stamp ∷ entries) last = last_beat_in entries (Some stamp)
 last_beat_in (Committed commit ∷ entries) last = last_beat_in entries last
 
 -- The farm agrees with the last world of a run.
-pub record Agrees {K S : Type 0} (content : K → Option (List Entry)) (faults : K → ℕ) (cache_of : S → CacheMap Bytes) (farm : FarmParts K S) (w : World) : Type 0 where
+pub record Agrees {K S : Type 0} (content : K → Option (List Entry)) (faults : K → ℕ) (cache_of : S → CacheMap Bytes)
+    (farm : FarmParts K S) (w : World) : Type 0 where
   pub plan : IsPlanOf w.setting farm.plan
   pub opened : w.setting.opened ≤ length w.history
   pub history : content farm.keeper ≡ Some w.history
   pub counted : w.faults ≤ faults farm.keeper
   pub messages : map row_message farm.ledger.rows ≡ w.messages
-  pub receipts : (r : Region) (purge : ℕ) → receipt_at r (row_at farm.ledger.rows purge) ≡ receipt_in (site r w).events purge
+  pub receipts : (r : Region) (purge : ℕ) → receipt_at r (row_at farm.ledger.rows purge)
+      ≡ receipt_in (site r w).events purge
   pub requests : (id : ℕ) → AgreeAt w (open_at farm.requests id) (request_at w id)
   pub home_moment : farm.moments.home ≡ w.home.moment
   pub west_moment : farm.moments.west ≡ w.west.moment

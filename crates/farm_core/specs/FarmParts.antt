@@ -12,8 +12,8 @@ use Rattle.purge_relay.specs.Ledger.{LedgerState}
 use Rattle.edit_core.specs.declared.begun_edit.BegunEdit.{BegunEdit}
 use Rattle.region_state.specs.declared.plan.FarmPlan.{FarmPlan}
 use Rattle.region_state.specs.RegionState.{RegionParts, IsBefore, with_cache}
-use Rattle.farm_core.specs.declared.open_request.OpenRequest.TheVariants as point
-use Rattle.farm_core.specs.RequestMap.{Entries, open_at, room}
+use Rattle.farm_steps.specs.declared.open_request.OpenRequest.TheVariants as point
+use Rattle.farm_steps.specs.RequestMap.{Entries, open_at, room}
 
 pub record FarmParts (K S : Type 0) : Type 0 where
   pub plan : FarmPlan
@@ -45,16 +45,12 @@ with_region_cache r cache farm = record farm {
   west = pick_west r (with_cache (Some cache) farm.west) farm.west;
 }
 
-abbrev pub moment_of : Region → Readings → ℕ
-moment_of Home at = at.home
-moment_of West at = at.west
-
 -- both caches are there: none is lent
 abbrev pub IsWhole : {K S : Type 0} → FarmParts K S → Type 0
 IsWhole farm = IsSome farm.home.cache × IsSome farm.west.cache
 
--- The farm has its plan, its caches and as many replicas as before: whatever may be asked of it after a step is asked of the same
--- shape.
+-- The farm has its plan, its caches and as many replicas as before: whatever may be asked of it after a step is asked
+-- of the same shape.
 pub record SameShape {K S : Type 0} (old new : FarmParts K S) : Type 0 where
   pub plan : new.plan ≡ old.plan
   pub whole : IsWhole old → IsWhole new

@@ -11,11 +11,10 @@ use Rattle.wiki_model.specs.Steps.Step.{Round}
 use Rattle.wiki_model.specs.Rounds.{MakesRound, rounded, batch}
 use Rattle.wiki_model.specs.Lent.{IsGivenBack}
 use Rattle.wiki_model.specs.Runs.{Turn, Leads, Many}
-use Rattle.farm_core.specs.ViewSteps.{region_at}
+use Rattle.farm_steps.specs.ViewSteps.{region_at}
+use Rattle.farm_steps.specs.RelaySteps.{received_all}
 use Rattle.farm_core.specs.Runs.{Stands, advanced}
 use Rattle.wiki_model.specs.World.Job.{ViewJob, ReceiptJob}
-use Rattle.purge_relay.specs.LedgerRow.{with_receipt}
-use Rattle.purge_relay.specs.Ledger.{LedgerState, changed_at}
 use Rattle.farm_core.specs.FarmParts.{FarmParts, pick_home, pick_west}
 use Rattle.region_state.specs.RegionState.{with_cache}
 
@@ -24,11 +23,6 @@ without_cache r farm = record farm {
   home = pick_home r (with_cache None farm.home) farm.home;
   west = pick_west r (with_cache None farm.west) farm.west;
 }
-
--- the ledger after these purges were received at a moment
-abbrev pub received_all : Region → (at : ℕ) → List ℕ → LedgerState → LedgerState
-received_all r at [] ledger = ledger
-received_all r at (purge ∷ purges) ledger = received_all r at purges (changed_at (with_receipt r at) purge ledger)
 
 abbrev pub with_given : {K S : Type 0} → Region → S → (at : ℕ) → List ℕ → FarmParts K S → FarmParts K S
 with_given r cache at purges farm = record farm {
@@ -55,13 +49,19 @@ answers_of (Some answers) = answers
 abbrev pub round_turn : Readings → Region → List Job → Option (List Answer) → Turn
 round_turn at r jobs answers = record { at = at; step = Round r jobs; reply = Many answers }
 
--- Whatever run the farm stood for when the cache was lent, each round after it that receives these purges, is lost or not, and
--- accounts for the cache makes a run for which the farm stands.
-abbrev pub GivesBack : {K S : Type 0} → (K → Option (List Entry)) → (K → ℕ) → (S → CacheMap Bytes) → (old new : FarmParts K S) → Region → (after : S) → (purges : List ℕ) → (lost : Bool) → Type 0
+-- Whatever run the farm stood for when the cache was lent, each round after it that receives these purges, is lost or
+-- not, and accounts for the cache makes a run for which the farm stands.
+abbrev pub GivesBack : {K S : Type 0} → (K → Option (List Entry)) → (K → ℕ) → (S → CacheMap Bytes)
+    → (old new : FarmParts K S) → Region → (after : S) → (purges : List ℕ) → (lost : Bool) → Type 0
 GivesBack {K} {S} content faults cache_of old new r after purges lost =
-    (lent : FarmParts K S) (at : Readings) (before : S) (start : World) (turns : List Turn) (v : World) (jobs : List Job) (answers : Option (List Answer))
-    → old ≡ without_cache r (advanced at lent) → (region_at r lent.home lent.west).cache ≡ Some before → purges_of jobs ≡ purges → was_lost answers ≡ lost → Stands content faults cache_of lent start turns v
-    → MakesRound r jobs (at_readings at v) answers (rounded r jobs (was_lost answers) (answers_of answers) (at_readings at v))
-    → IsGivenBack (at_readings at v) r jobs (was_lost answers) (batch (at_readings at v) r jobs (was_lost answers) (answers_of answers)).rendered (cache_of before) (cache_of after)
+    (lent : FarmParts K S) (at : Readings) (before : S) (start : World) (turns : List Turn) (v : World)
+    (jobs : List Job) (answers : Option (List Answer))
+    → old ≡ without_cache r (advanced at lent) → (region_at r lent.home lent.west).cache ≡ Some before
+    → purges_of jobs ≡ purges → was_lost answers ≡ lost → Stands content faults cache_of lent start turns v
+    → MakesRound r jobs (at_readings at v) answers
+    (rounded r jobs (was_lost answers) (answers_of answers) (at_readings at v))
+    → IsGivenBack (at_readings at v) r jobs (was_lost answers)
+    (batch (at_readings at v) r jobs (was_lost answers) (answers_of answers)).rendered
+    (cache_of before) (cache_of after)
     → (w : World) × Stands content faults cache_of new start (round_turn at r jobs answers ∷ turns) w
     × Leads v (round_turn at r jobs answers) w × (faults lent.keeper ≤ w.faults)

@@ -1,13 +1,7 @@
 pub mod FarmParts
-pub mod RequestMap
 pub mod RequestLife
 pub mod Agreement
 pub mod Runs
 pub mod AppendBeat
-pub mod ViewSteps
-pub mod ArriveStep
-pub mod RelaySteps
-pub mod EditSteps
-pub mod ApplyStep
 pub mod NewFarm
 pub mod LendCache

@@ -1,14 +1,14 @@
--- The life of a request: at which point each one stands, and where a step leaves its own, by its answer. This holds over every
--- keeper, whether it exposes its history or not.
+-- The life of a request: at which point each one stands, and where a step leaves its own, by its answer. This holds
+-- over every keeper, whether it exposes its history or not.
 use Rattle.std.specs.Prelude.{ℕ, ◌≡◌, ◌⊎◌, false, Bool, nat_eq, Option, None, Some, option_map}
 use Rattle.wiki_model.specs.Answers.{Answer, Page, EditSaved, NoPage, Conflict, TokenUsed, Lagging, Miss, NotOpen, StoreFault, NoMemory}
 use Rattle.region_state.specs.declared.answer.Answer.{Answer as CodeAnswer}
 use Rattle.region_state.specs.AsModel.{answer_of}
 use Rattle.region_state.specs.declared.ask.Asked.{Asked}
 use Rattle.region_state.specs.declared.ask.Asked.TheVariants as asked
-use Rattle.farm_core.specs.declared.open_request.OpenRequest.{OpenRequest}
-use Rattle.farm_core.specs.declared.open_request.OpenRequest.TheVariants as point
-use Rattle.farm_core.specs.RequestMap.{Entries, open_at, waited_view, need_of}
+use Rattle.farm_steps.specs.declared.open_request.OpenRequest.{OpenRequest}
+use Rattle.farm_steps.specs.declared.open_request.OpenRequest.TheVariants as point
+use Rattle.farm_steps.specs.RequestMap.{Entries, open_at, waited_view, need_of}
 
 pub data Point : Type 0 where
   Closed : Point
@@ -32,8 +32,10 @@ point_of (Some point.Taken) = Closed
 abbrev pub point_at : Entries → (id : ℕ) → Point
 point_at entries id = point_of (open_at entries id)
 
--- A step moves a request from the point that it needs, and no other. If the request stands elsewhere, it is not open for the step.
-pub record MovesOn (id : ℕ) (from : Point) (To : Option Answer → Point → Type 0) (answer : Option Answer) (old new : Entries) : Type 0 where
+-- A step moves a request from the point that it needs, and no other. If the request stands elsewhere, it is not open
+-- for the step.
+pub record MovesOn (id : ℕ) (from : Point) (To : Option Answer → Point → Type 0) (answer : Option Answer)
+    (old new : Entries) : Type 0 where
   pub others : (other : ℕ) → nat_eq other id ≡ false → open_at new other ≡ open_at old other
   pub moved : point_at old id ≡ from → To answer (point_at new id)
   pub refused : (point_at old id ≡ from → ⊥) → (answer ≡ Some (NotOpen id)) × (new ≡ old)

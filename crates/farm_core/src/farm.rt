@@ -1,6 +1,7 @@
 // The farm.
 ghost use Rattle.edit_core.specs.AsModel.{refused_of, refusal_of};
-ghost use Rattle.std.specs.Prelude.{◌≡◌, ◌≤◌, ◌<◌, ◌+◌, ℕ, max, Some, None, IfSome, OnOk, OnErr, [], ◌∷◌, ◌++◌, length, option_map};
+ghost use Rattle.std.specs.Prelude.{◌≡◌, ◌≤◌, ◌<◌, ◌+◌, ℕ, max, Some, None, IfSome, OnOk, OnErr, [], ◌∷◌, ◌++◌, length};
+ghost use Rattle.std.specs.Prelude.{option_map};
 ghost use Rattle.wiki_model.specs.Limits.{greatest_moment};
 ghost use Rattle.wiki_model.specs.History.{stamp_at};
 ghost use Rattle.region_state.specs.AsModel.{answer_of};
@@ -8,12 +9,10 @@ ghost use Rattle.farm_core.specs.AppendBeat.{Beats};
 ghost use Rattle.farm_core.specs.NewFarm.{new_fault_of};
 
 use crate::lend_cache::{lend_cache, take_cache};
-use crate::moments::{moment_of, moments_at};
 use crate::open_farm::start;
-use crate::request_map::{Requests, is_open};
-use crate::{edit_steps, relay_steps, view_steps};
 use commit_feed::Entry;
 use farm_base::{Moment, Readings, Region};
+use farm_steps::{Requests, is_open, moment_of, moments_at};
 use page_render::Page;
 use purge_relay::{Body, Ledger, Message, Receipt};
 use region_state::{Answer, Asked, FarmPlan, RegionState};
@@ -43,9 +42,28 @@ impl<K: Keeper, S: RegionStore<Page>> Model for Farm<K, S> {
 
     ghost use Rattle.farm_core.specs.FarmParts.{IsFarm};
 
-    ghost view = { λ f. record { plan = f.plan; keeper = f.keeper; ledger = f.ledger; home = f.home; west = f.west; requests = f.requests.entries; moments = f.moments; last_beat = f.last_beat } };
+    ghost view = { λ f. record {
+      plan = f.plan;
+      keeper = f.keeper;
+      ledger = f.ledger;
+      home = f.home;
+      west = f.west;
+      requests = f.requests.entries;
+      moments = f.moments;
+      last_beat = f.last_beat;
+    } };
 
-    ghost invariant = { λ f. IsFarm K.content S.cache (record { plan = f.plan; keeper = f.keeper; ledger = f.ledger; home = f.home; west = f.west; requests = f.requests.entries; moments = f.moments; last_beat = f.last_beat }) };
+    ghost invariant = { λ f. IsFarm K.content S.cache
+        (record {
+          plan = f.plan;
+          keeper = f.keeper;
+          ledger = f.ledger;
+          home = f.home;
+          west = f.west;
+          requests = f.requests.entries;
+          moments = f.moments;
+          last_beat = f.last_beat;
+        }) };
 }
 
 /// The answer to a step that the keeper refused.
@@ -73,7 +91,8 @@ fn append_beat<K: Keeper>(
 ) -> Option<Answer>
     requires moment { now ≤ greatest_moment }
     requires later { IfSome (K.content keeper.old) (λ h. stamp_at h (length h) ≤ now) }
-    ensures { Beats (K.content keeper.old) (K.content keeper.new) (K.faults keeper.old) (K.faults keeper.new) last_beat.old last_beat.new now (option_map answer_of result) }
+    ensures { Beats (K.content keeper.old) (K.content keeper.new) (K.faults keeper.old) (K.faults keeper.new)
+        last_beat.old last_beat.new now (option_map answer_of result) }
 {
     keeper.known();
     match keeper.append(Entry::Beat { stamp: now }) {
@@ -87,15 +106,17 @@ fn append_beat<K: Keeper>(
 
 impl<K: Keeper, S: RegionStore<Page>> Farm<K, S> {
     ghost use Rattle.std.specs.Prelude.{◌≡◌, ◌≤◌, ◌<◌, ℕ, length, Some, None, IsSome, option_map};
-    ghost use Rattle.wiki_model.specs.Steps.{MakeBeat, Arrive, Begin, CommitEdit, Wait, Look, Snap, Store, Apply, Carry, Drop, Need, SetMarkup};
+    ghost use Rattle.wiki_model.specs.Steps.{MakeBeat, Arrive, Begin, CommitEdit, Wait, Look, Snap, Store, Apply};
+    ghost use Rattle.wiki_model.specs.Steps.{Carry, Drop, Need, SetMarkup};
     ghost use Rattle.std.specs.Option.{option_copied};
     ghost use Rattle.purge_relay.specs.AsModel.{body_of};
     ghost use Rattle.wiki_model.specs.Runs.{One};
     ghost use Rattle.region_state.specs.AsModel.{answer_of, asked_of};
-    ghost use Rattle.farm_core.specs.RequestMap.{open_at};
-    ghost use Rattle.farm_core.specs.RequestLife.{Arrives, Begins, Commits, Waits, Looks, Snaps, Stores, ClosesWaited, LeavesRequests};
+    ghost use Rattle.farm_steps.specs.RequestMap.{open_at};
+    ghost use Rattle.farm_core.specs.RequestLife.{Arrives, Begins, Commits, Waits, Looks, Snaps, Stores, ClosesWaited};
+    ghost use Rattle.farm_core.specs.RequestLife.{LeavesRequests};
     ghost use Rattle.farm_core.specs.FarmParts.{FarmParts, IsWhole};
-    ghost use Rattle.farm_core.specs.ViewSteps.{region_at};
+    ghost use Rattle.farm_steps.specs.ViewSteps.{region_at};
     ghost use Rattle.farm_core.specs.Runs.{Resumes, Steps, StepsFrom, advanced, turn_of};
 
     /// Takes the readings of a step: no moment falls.
@@ -106,7 +127,8 @@ impl<K: Keeper, S: RegionStore<Page>> Farm<K, S> {
     }
 
     fn beat_now(&mut self) -> Option<Answer>
-        ensures { StepsFrom K.content K.faults S.cache self.old self.new MakeBeat (One (option_map answer_of result)) LeavesRequests }
+        ensures { StepsFrom K.content K.faults S.cache self.old self.new MakeBeat (One (option_map answer_of result))
+            LeavesRequests }
     {
         append_beat(&mut self.keeper, &mut self.last_beat, self.moments.home)
     }
@@ -134,9 +156,10 @@ impl<K: Keeper, S: RegionStore<Page>> Farm<K, S> {
     }
 
     fn wait_now(&mut self, id: u64, last: bool) -> Option<Answer>
-        ensures { StepsFrom K.content K.faults S.cache self.old self.new (Wait id last) (One (option_map answer_of result)) (Waits id last result) }
+        ensures { StepsFrom K.content K.faults S.cache self.old self.new (Wait id last)
+            (One (option_map answer_of result)) (Waits id last result) }
     {
-        view_steps::wait(
+        farm_steps::wait(
             &mut self.requests,
             &self.home,
             &self.west,
@@ -148,7 +171,8 @@ impl<K: Keeper, S: RegionStore<Page>> Farm<K, S> {
 
     /// Lets a view go on that is not behind its session's position. One that is behind waits, or gives up.
     pub fn wait(&mut self, at: Readings, id: u64, last: bool) -> Option<Answer>
-        ensures { Steps K.content K.faults S.cache self.old self.new (turn_of at (Wait id last) result) (Waits id last result) }
+        ensures { Steps K.content K.faults S.cache self.old self.new (turn_of at (Wait id last) result)
+            (Waits id last result) }
     {
         self.advance(at);
         self.wait_now(id, last)
@@ -156,9 +180,10 @@ impl<K: Keeper, S: RegionStore<Page>> Farm<K, S> {
 
     fn look_now(&mut self, id: u64) -> Option<Answer>
         requires { IsWhole self.old }
-        ensures { StepsFrom K.content K.faults S.cache self.old self.new (Look id) (One (option_map answer_of result)) (Looks id result) }
+        ensures { StepsFrom K.content K.faults S.cache self.old self.new (Look id) (One (option_map answer_of result))
+            (Looks id result) }
     {
-        view_steps::look(&mut self.requests, &self.home, &self.west, self.moments, id)
+        farm_steps::look(&mut self.requests, &self.home, &self.west, self.moments, id)
     }
 
     /// Looks for the page in the cache of the view's region. Neither cache is lent.
@@ -172,9 +197,10 @@ impl<K: Keeper, S: RegionStore<Page>> Farm<K, S> {
 
     fn store_now(&mut self, alloc: Global, id: u64) -> Answer
         requires { IsWhole self.old }
-        ensures { StepsFrom K.content K.faults S.cache self.old self.new (Store id) (One (Some (answer_of result))) (Stores id (Some result)) }
+        ensures { StepsFrom K.content K.faults S.cache self.old self.new (Store id) (One (Some (answer_of result)))
+            (Stores id (Some result)) }
     {
-        view_steps::store(
+        farm_steps::store(
             alloc,
             &mut self.requests,
             &mut self.home,
@@ -195,9 +221,10 @@ impl<K: Keeper, S: RegionStore<Page>> Farm<K, S> {
 
     fn begin_now(&mut self, id: u64) -> Option<Answer>
         requires { IsWhole self.old }
-        ensures { StepsFrom K.content K.faults S.cache self.old self.new (Begin id) (One (option_map answer_of result)) (Begins id result) }
+        ensures { StepsFrom K.content K.faults S.cache self.old self.new (Begin id) (One (option_map answer_of result))
+            (Begins id result) }
     {
-        edit_steps::begin(
+        farm_steps::begin(
             &mut self.keeper,
             &mut self.ledger,
             &mut self.home,
@@ -221,9 +248,10 @@ impl<K: Keeper, S: RegionStore<Page>> Farm<K, S> {
 
     fn commit_now(&mut self, id: u64) -> Answer
         requires { IsWhole self.old }
-        ensures { StepsFrom K.content K.faults S.cache self.old self.new (CommitEdit id) (One (Some (answer_of result))) (Commits id (Some result)) }
+        ensures { StepsFrom K.content K.faults S.cache self.old self.new (CommitEdit id) (One (Some (answer_of result)))
+            (Commits id (Some result)) }
     {
-        edit_steps::commit(
+        farm_steps::commit(
             &mut self.keeper,
             &mut self.ledger,
             &mut self.home,
@@ -236,7 +264,8 @@ impl<K: Keeper, S: RegionStore<Page>> Farm<K, S> {
     /// Commits a begun edit, and answers what became of it. Neither cache is lent.
     pub fn commit(&mut self, at: Readings, id: u64) -> Option<Answer>
         requires { IsWhole self.old }
-        ensures { Steps K.content K.faults S.cache self.old self.new (turn_of at (CommitEdit id) result) (Commits id result) }
+        ensures { Steps K.content K.faults S.cache self.old self.new (turn_of at (CommitEdit id) result)
+            (Commits id result) }
     {
         self.advance(at);
         Some(self.commit_now(id))
@@ -245,21 +274,23 @@ impl<K: Keeper, S: RegionStore<Page>> Farm<K, S> {
     fn need_now(&mut self, id: u64) -> Option<u64>
         ensures { StepsFrom K.content K.faults S.cache self.old self.new (Need id) (One None) (ClosesWaited id result) }
     {
-        view_steps::need(&mut self.requests, id)
+        farm_steps::need(&mut self.requests, id)
     }
 
     /// Closes a request that has waited, and tells its need.
     pub fn need(&mut self, at: Readings, id: u64) -> Option<u64>
-        ensures { Steps K.content K.faults S.cache self.old self.new (turn_of at (Need id) None) (ClosesWaited id result) }
+        ensures { Steps K.content K.faults S.cache self.old self.new (turn_of at (Need id) None)
+            (ClosesWaited id result) }
     {
         self.advance(at);
         self.need_now(id)
     }
 
     fn drop_now(&mut self, number: u64) -> Option<Answer>
-        ensures { StepsFrom K.content K.faults S.cache self.old self.new (Drop number) (One (option_map answer_of result)) LeavesRequests }
+        ensures { StepsFrom K.content K.faults S.cache self.old self.new (Drop number)
+            (One (option_map answer_of result)) LeavesRequests }
     {
-        relay_steps::drop_message(&mut self.ledger, number)
+        farm_steps::drop_message(&mut self.ledger, number)
     }
 
     /// Drops a message: it is carried no more.
@@ -271,9 +302,10 @@ impl<K: Keeper, S: RegionStore<Page>> Farm<K, S> {
     }
 
     fn snap_now(&mut self, alloc: Global, id: u64) -> Option<Answer>
-        ensures { StepsFrom K.content K.faults S.cache self.old self.new (Snap id) (One (option_map answer_of result)) (Snaps id result) }
+        ensures { StepsFrom K.content K.faults S.cache self.old self.new (Snap id) (One (option_map answer_of result))
+            (Snaps id result) }
     {
-        view_steps::snap(
+        farm_steps::snap(
             alloc,
             &mut self.requests,
             &self.home,
@@ -293,9 +325,10 @@ impl<K: Keeper, S: RegionStore<Page>> Farm<K, S> {
 
     fn apply_now(&mut self, region: Region, replica: u8, count: u32) -> Option<Answer>
         requires { replica < length (region_at region self.old.home self.old.west).replicas }
-        ensures { StepsFrom K.content K.faults S.cache self.old self.new (Apply region replica count) (One (option_map answer_of result)) LeavesRequests }
+        ensures { StepsFrom K.content K.faults S.cache self.old self.new (Apply region replica count)
+            (One (option_map answer_of result)) LeavesRequests }
     {
-        view_steps::apply(
+        farm_steps::apply(
             &mut self.keeper,
             &mut self.home,
             &mut self.west,
@@ -308,7 +341,8 @@ impl<K: Keeper, S: RegionStore<Page>> Farm<K, S> {
     /// Applies the next entries to a replica of the plan, at most `count`. Those applied before a refusal stay.
     pub fn apply(&mut self, at: Readings, region: Region, replica: u8, count: u32) -> Option<Answer>
         requires { replica < length (region_at region self.old.home self.old.west).replicas }
-        ensures { Steps K.content K.faults S.cache self.old self.new (turn_of at (Apply region replica count) result) LeavesRequests }
+        ensures { Steps K.content K.faults S.cache self.old self.new (turn_of at (Apply region replica count) result)
+            LeavesRequests }
     {
         self.advance(at);
         self.apply_now(region, replica, count)
@@ -323,7 +357,8 @@ impl<K: Keeper, S: RegionStore<Page>> Farm<K, S> {
 
     /// Sets the markup by which pages are read, 1 or 2.
     pub fn set_markup(&mut self, at: Readings, markup: u8)
-        ensures { Steps K.content K.faults S.cache self.old self.new (turn_of at (SetMarkup markup) None) LeavesRequests }
+        ensures { Steps K.content K.faults S.cache self.old self.new (turn_of at (SetMarkup markup) None)
+            LeavesRequests }
     {
         self.advance(at);
         self.set_markup_now(markup);
@@ -331,10 +366,12 @@ impl<K: Keeper, S: RegionStore<Page>> Farm<K, S> {
 
     fn carry_now(&mut self, number: u64, shown: Option<&Body>) -> Option<Answer>
         requires { IsWhole self.old }
-        ensures { StepsFrom K.content K.faults S.cache self.old self.new (Carry number (option_map body_of (option_copied shown.entry))) (One (option_map answer_of result)) LeavesRequests }
+        ensures { StepsFrom K.content K.faults S.cache self.old self.new
+            (Carry number (option_map body_of (option_copied shown.entry))) (One (option_map answer_of result))
+            LeavesRequests }
     {
-        let carriage = relay_steps::find_carriage(&self.ledger, number, shown);
-        relay_steps::carry(
+        let carriage = farm_steps::find_carriage(&self.ledger, number, shown);
+        farm_steps::carry(
             &mut self.ledger,
             &mut self.west,
             self.moments.west,
@@ -347,7 +384,8 @@ impl<K: Keeper, S: RegionStore<Page>> Farm<K, S> {
     /// the message's own. Neither cache is lent.
     pub fn carry(&mut self, at: Readings, number: u64, shown: Option<&Body>) -> Option<Answer>
         requires { IsWhole self.old }
-        ensures { Steps K.content K.faults S.cache self.old self.new (turn_of at (Carry number (option_map body_of (option_copied shown.entry))) result) LeavesRequests }
+        ensures { Steps K.content K.faults S.cache self.old self.new
+            (turn_of at (Carry number (option_map body_of (option_copied shown.entry))) result) LeavesRequests }
     {
         self.advance(at);
         let answer = self.carry_now(number, shown);
@@ -356,15 +394,17 @@ impl<K: Keeper, S: RegionStore<Page>> Farm<K, S> {
     }
 
     fn arrive_now(&mut self, id: u64, asked: Asked) -> Option<Answer>
-        ensures { StepsFrom K.content K.faults S.cache self.old self.new (Arrive id (asked_of asked)) (One (option_map answer_of result)) (Arrives id asked result) }
+        ensures { StepsFrom K.content K.faults S.cache self.old self.new (Arrive id (asked_of asked))
+            (One (option_map answer_of result)) (Arrives id asked result) }
     {
-        view_steps::arrive(&mut self.requests, self.moments, id, asked)
+        farm_steps::arrive(&mut self.requests, self.moments, id, asked)
     }
 
     /// Opens a request. None stands at its id.
     pub fn arrive(&mut self, at: Readings, id: u64, asked: Asked) -> Option<Answer>
         requires { open_at self.old.requests id ≡ None }
-        ensures { Steps K.content K.faults S.cache self.old self.new (turn_of at (Arrive id (asked_of asked)) result) (Arrives id asked result) }
+        ensures { Steps K.content K.faults S.cache self.old self.new (turn_of at (Arrive id (asked_of asked)) result)
+            (Arrives id asked result) }
     {
         self.advance(at);
         self.arrive_now(id, asked)
@@ -395,8 +435,9 @@ impl<K: Keeper, S: RegionStore<Page> + Drop> Farm<K, S> {
     ghost use Rattle.wiki_model.specs.Cache.{IsEmptyCache};
     ghost use Rattle.farm_core.specs.NewFarm.{HasNewFault, IsFresh, Opens};
 
-    /// A farm over a keeper's history. Its replicas have applied nothing, its caches are empty, and both regions know the
-    /// positions of the commits that are young. If it is refused the keeper is handed back, with the history that it had.
+    /// A farm over a keeper's history. Its replicas have applied nothing, its caches are empty, and both regions know
+    /// the positions of the commits that are young. If it is refused the keeper is handed back, with the history that
+    /// it had.
     ///
     /// The keeper is asked for its last entries, back to the first that is not young.
     pub fn new(
@@ -442,15 +483,17 @@ impl<K: Keeper, S: RegionStore<Page> + Drop> Farm<K, S> {
 
 // Calls that are no step.
 impl<K: Keeper, S: RegionStore<Page>> Farm<K, S> {
-    ghost use Rattle.std.specs.Prelude.{◌≡◌, ◌↔◌, ◌≤◌, ◌<◌, ℕ, length, Some, None, IsSome, IsTrue, IfSome, IfNone, IfOk, option_map, is_some};
+    ghost use Rattle.std.specs.Prelude.{◌≡◌, ◌↔◌, ◌≤◌, ◌<◌, ℕ, length, Some, None, IsSome, IsTrue, IfSome, IfNone};
+    ghost use Rattle.std.specs.Prelude.{IfOk, option_map, is_some};
     ghost use Rattle.std.specs.Option.{option_copied};
-    ghost use Rattle.farm_core.specs.RequestMap.{open_at};
+    ghost use Rattle.farm_steps.specs.RequestMap.{open_at};
     ghost use Rattle.revision_keeper.specs.Causes.{HasFault};
     ghost use Rattle.purge_relay.specs.LedgerRow.{sent, receipt_at, is_dropped_row};
     ghost use Rattle.purge_relay.specs.Ledger.{row_at, changed_at, IsFirstUnsent, AreSent};
     ghost use Rattle.revision_keeper.specs.Keeper.{IsEntryAt};
-    ghost use Rattle.farm_core.specs.FarmParts.{moment_of, IsWhole};
-    ghost use Rattle.farm_core.specs.ViewSteps.{region_at, IsPendingIn};
+    ghost use Rattle.farm_core.specs.FarmParts.{IsWhole};
+    ghost use Rattle.farm_steps.specs.Moments.{moment_of};
+    ghost use Rattle.farm_steps.specs.ViewSteps.{region_at, IsPendingIn};
     ghost use Rattle.farm_core.specs.Runs.{StandsOn};
 
     /// The message of this number.
@@ -509,12 +552,12 @@ impl<K: Keeper, S: RegionStore<Page>> Farm<K, S> {
         }
     }
 
-    /// Whether an edit of the title is begun while a view of this region reads it: edits are open at home alone. Its cost is
-    /// linear in the open requests.
+    /// Whether an edit of the title is begun while a view of this region reads it: edits are open at home alone. Its
+    /// cost is linear in the open requests.
     pub fn pending(&self, region: Region, title: &Title) -> bool
         ensures { IsPendingIn region self.now.requests title.now result }
     {
-        view_steps::is_pending(&self.requests, region, title)
+        farm_steps::is_pending(&self.requests, region, title)
     }
 
     /// The moment of a region.
@@ -597,10 +640,10 @@ pub struct Lent<S> {
 // A cache is lent to a round, and given back.
 impl<K: Keeper, S: RegionStore<Page> + Drop> Farm<K, S> {
     ghost use Rattle.std.specs.Prelude.{◌≡◌, ◌≤◌, false, Some, None, IsSome};
-    ghost use Rattle.farm_core.specs.FarmParts.{moment_of};
+    ghost use Rattle.farm_steps.specs.Moments.{moment_of};
     ghost use Rattle.farm_core.specs.LendCache.{without_cache, with_given, GivesBack};
     ghost use Rattle.farm_core.specs.Runs.{advanced};
-    ghost use Rattle.farm_core.specs.ViewSteps.{region_at};
+    ghost use Rattle.farm_steps.specs.ViewSteps.{region_at};
 
     fn lend_now(&mut self, region: Region) -> Lent<S>
         requires { IsSome (region_at region self.old.home self.old.west).cache }
@@ -624,8 +667,8 @@ impl<K: Keeper, S: RegionStore<Page> + Drop> Farm<K, S> {
         self.lend_now(region)
     }
 
-    /// Takes a region's cache back after a round, which received these purges. `lost` says that the round was refused when it
-    /// was to close the cache; the cache that is handed back then has nothing of the round but the purges.
+    /// Takes a region's cache back after a round, which received these purges. `lost` says that the round was refused
+    /// when it was to close the cache; the cache that is handed back then has nothing of the round but the purges.
     pub fn give_back(&mut self, region: Region, lent: Lent<S>, receipts: &[u64], lost: bool)
         requires open { (S.cache lent.cache).shared ≡ false }
         requires early { (S.cache lent.cache).greatest ≤ moment_of region self.old.moments }
@@ -636,6 +679,6 @@ impl<K: Keeper, S: RegionStore<Page> + Drop> Farm<K, S> {
         let _ = lost;
         let Lent { cache, now } = lent;
         take_cache(&mut self.home, &mut self.west, region, cache);
-        relay_steps::receive_all(&mut self.ledger, region, receipts, now);
+        farm_steps::receive_all(&mut self.ledger, region, receipts, now);
     }
 }

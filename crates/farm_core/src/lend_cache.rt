@@ -2,7 +2,7 @@
 ghost use Rattle.std.specs.Prelude.{◌≡◌, false, Some, None};
 ghost use Rattle.region_state.specs.RegionState.{with_cache};
 ghost use Rattle.farm_core.specs.FarmParts.{pick_home, pick_west};
-ghost use Rattle.farm_core.specs.ViewSteps.{region_at};
+ghost use Rattle.farm_steps.specs.ViewSteps.{region_at};
 
 use farm_base::Region;
 use page_render::Page;

@@ -7,17 +7,17 @@ ghost use Rattle.revision_keeper.specs.Causes.{HasFault};
 ghost use Rattle.region_state.specs.YoungCommits.{AreSmall, commits_of};
 ghost use Rattle.farm_core.specs.NewFarm.{IsOpenedRegion, IsStarted};
 
-use crate::moments::first_moments;
 use chronology_store::ClientCommit;
 use farm_base::{Bounds, Memory, Moment, Readings};
+use farm_steps::first_moments;
 use page_render::Page;
 use region_state::{FarmPlan, RegionPlan, RegionState, young_commits};
 use revision_keeper::{KeepFault, Keeper};
 use std::alloc::Global;
 use wan_cache::RegionStore;
 
-/// The regions and the first moments of a farm over the keeper's history. The keeper is asked for its last entries, back
-/// to the first that is not young.
+/// The regions and the first moments of a farm over the keeper's history. The keeper is asked for its last entries,
+/// back to the first that is not young.
 pub(crate) fn start<K: Keeper, S: RegionStore<Page> + Drop>(
     alloc: Global,
     keeper: &mut K,
@@ -40,7 +40,8 @@ pub(crate) fn start<K: Keeper, S: RegionStore<Page> + Drop>(
     ensures west_cache { IfOk result (λ made. made.1.cache ≡ Some west) }
     ensures home_small { IfOk result (λ made. made.2.home ≤ greatest_moment) }
     ensures west_small { IfOk result (λ made. made.2.west ≤ greatest_moment) }
-    ensures started { (h : List history.Entry) → K.content keeper.old ≡ Some h → IfOk result (λ made. IsStarted S.cache plan.now home west at h made.0 made.1 made.2) }
+    ensures started { (h : List history.Entry) → K.content keeper.old ≡ Some h
+        → IfOk result (λ made. IsStarted S.cache plan.now home west at h made.0 made.1 made.2) }
 {
     let stamp = match last_stamp(keeper) {
         Ok(stamp) => stamp,
@@ -62,7 +63,8 @@ fn last_stamp<K: Keeper>(keeper: &mut K) -> Result<Moment, KeepFault>
     ensures content { K.content keeper.new ≡ K.content keeper.old }
     ensures cause { HasFault (K.faults keeper.old) (K.faults keeper.new) result }
     ensures small { IfOk result (λ stamp. stamp ≤ greatest_moment) }
-    ensures stamp { (h : List history.Entry) → K.content keeper.old ≡ Some h → IfOk result (λ stamp. stamp ≡ stamp_at h (length h)) }
+    ensures stamp { (h : List history.Entry) → K.content keeper.old ≡ Some h
+        → IfOk result (λ stamp. stamp ≡ stamp_at h (length h)) }
 {
     keeper.start()?;
     let len = keeper.len()?;
@@ -74,7 +76,8 @@ fn stamp_of<K: Keeper>(keeper: &mut K, n: u64) -> Result<Moment, KeepFault>
     ensures content { K.content keeper.new ≡ K.content keeper.old }
     ensures cause { HasFault (K.faults keeper.old) (K.faults keeper.new) result }
     ensures small { IfOk result (λ stamp. stamp ≤ greatest_moment) }
-    ensures stamp { (h : List history.Entry) → K.content keeper.old ≡ Some h → IfOk result (λ stamp. stamp ≡ stamp_at h n) }
+    ensures stamp { (h : List history.Entry) → K.content keeper.old ≡ Some h
+        → IfOk result (λ stamp. stamp ≡ stamp_at h n) }
 {
     match keeper.entry(n) {
         Err(fault) => Err(fault),
@@ -101,8 +104,12 @@ fn start_regions<S: RegionStore<Page> + Drop>(
     ensures west_replicas { IfOk result (λ made. length made.1.replicas ≡ length plan.now.west.weights) }
     ensures home_cache { IfOk result (λ made. made.0.cache ≡ Some home) }
     ensures west_cache { IfOk result (λ made. made.1.cache ≡ Some west) }
-    ensures home { (ns : List history.Numbered) → commits.now ≡ commits_of ns → IfOk result (λ made. IsOpenedRegion plan.now.home.weights plan.now.epoch plan.now.bounds.read_lag home ns made.0) }
-    ensures west { (ns : List history.Numbered) → commits.now ≡ commits_of ns → IfOk result (λ made. IsOpenedRegion plan.now.west.weights plan.now.epoch plan.now.bounds.read_lag west ns made.1) }
+    ensures home { (ns : List history.Numbered) → commits.now ≡ commits_of ns
+        → IfOk result (λ made. IsOpenedRegion plan.now.home.weights plan.now.epoch plan.now.bounds.read_lag
+        home ns made.0) }
+    ensures west { (ns : List history.Numbered) → commits.now ≡ commits_of ns
+        → IfOk result (λ made. IsOpenedRegion plan.now.west.weights plan.now.epoch plan.now.bounds.read_lag
+        west ns made.1) }
 {
     let home = start_region(alloc, &plan.home, plan.epoch, plan.bounds, home, commits)?;
     let west = start_region(alloc, &plan.west, plan.epoch, plan.bounds, west, commits)?;
@@ -124,7 +131,8 @@ fn start_region<S: RegionStore<Page> + Drop>(
     requires small { AreSmall commits.now }
     ensures replicas { IfOk result (λ parts. length parts.replicas ≡ length plan.now.weights) }
     ensures cache { IfOk result (λ parts. parts.cache ≡ Some cache) }
-    ensures region { (ns : List history.Numbered) → commits.now ≡ commits_of ns → IfOk result (λ parts. IsOpenedRegion plan.now.weights epoch bounds.read_lag cache ns parts) }
+    ensures region { (ns : List history.Numbered) → commits.now ≡ commits_of ns
+        → IfOk result (λ parts. IsOpenedRegion plan.now.weights epoch bounds.read_lag cache ns parts) }
 {
     let Ok(mut region) = RegionState::new(alloc, plan, epoch, cache, bounds) else {
         return Err(Memory);

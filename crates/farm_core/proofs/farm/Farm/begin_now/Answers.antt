@@ -2,9 +2,9 @@ use Rattle.std.proofs.Common.{option_map, subst}
 use Rattle.wiki_model.specs.Steps.{Step}
 use Rattle.wiki_model.specs.Runs.{One}
 use Rattle.region_state.specs.AsModel.{answer_of}
-use Rattle.farm_core.specs.RequestMap.{open_at, arrived_edit}
+use Rattle.farm_steps.specs.RequestMap.{open_at, arrived_edit}
 use Rattle.farm_core.specs.FarmParts.{FarmParts}
-use Rattle.farm_core.specs.EditSteps.{BeginsTo}
+use Rattle.farm_steps.specs.EditSteps.{BeginsTo}
 use Rattle.farm_core.specs.Runs.{StepsFrom}
 use Rattle.farm_core.proofs.Beginning.{begin_goes}
 use Rattle.farm_core.proofs.EditsKept.{begin_kept}

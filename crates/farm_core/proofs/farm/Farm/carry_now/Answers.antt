@@ -4,10 +4,10 @@ use Rattle.wiki_model.specs.Steps.{Step}
 use Rattle.wiki_model.specs.Runs.{One}
 use Rattle.purge_relay.specs.Ledger.{row_at}
 use Rattle.purge_relay.specs.AsModel.{body_of}
-use Rattle.farm_core.specs.declared.relay_steps.Carriage.{Carriage}
+use Rattle.farm_steps.specs.declared.relay_steps.Carriage.{Carriage}
 use Rattle.region_state.specs.AsModel.{answer_of}
 use Rattle.farm_core.specs.FarmParts.{FarmParts}
-use Rattle.farm_core.specs.RelaySteps.{CarriesAs}
+use Rattle.farm_steps.specs.RelaySteps.{CarriesAs}
 use Rattle.farm_core.specs.Runs.{StepsFrom}
 use Rattle.farm_core.proofs.Carriages.{carries_as, carry_kept}
 use Rattle.farm_core.proofs.Carrying.{carry_goes}

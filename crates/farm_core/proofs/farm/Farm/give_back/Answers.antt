@@ -1,5 +1,6 @@
 use Rattle.std.proofs.Common.{◌≤◌, ◌∙◌, ap, sym, subst}
-use Rattle.farm_core.specs.FarmParts.{FarmParts, IsFarm, moment_of}
+use Rattle.farm_core.specs.FarmParts.{FarmParts, IsFarm}
+use Rattle.farm_steps.specs.Moments.{moment_of}
 use Rattle.farm_core.specs.LendCache.{GivesBack}
 use Rattle.farm_core.proofs.Lending.{given_kept}
 use Rattle.farm_core.proofs.Giving.{give_back_goes}

@@ -1,7 +1,7 @@
 use Rattle.std.proofs.Common.{arith, None, sym, subst}
 use Rattle.wiki_model.specs.Steps.{Step}
 use Rattle.wiki_model.specs.Runs.{One}
-use Rattle.farm_core.specs.RequestMap.{open_at, waited_view}
+use Rattle.farm_steps.specs.RequestMap.{open_at, waited_view}
 use Rattle.farm_core.specs.FarmParts.{FarmParts}
 use Rattle.farm_core.specs.Runs.{StepsFrom}
 use Rattle.farm_core.proofs.Dropping.{need_goes, need_begun}

@@ -2,7 +2,7 @@ use Rattle.std.proofs.Common.{arith, option_map, subst}
 use Rattle.wiki_model.specs.Steps.{Step}
 use Rattle.wiki_model.specs.Runs.{One}
 use Rattle.region_state.specs.AsModel.{answer_of}
-use Rattle.farm_core.specs.RequestMap.{open_at, looked_view}
+use Rattle.farm_steps.specs.RequestMap.{open_at, looked_view}
 use Rattle.farm_core.specs.FarmParts.{FarmParts}
 use Rattle.farm_core.specs.Runs.{StepsFrom}
 use Rattle.farm_core.proofs.Snapping.{snap_goes, snap_begun}

@@ -2,7 +2,7 @@ use Rattle.std.proofs.Common.{arith, Some, subst}
 use Rattle.wiki_model.specs.Steps.{Step}
 use Rattle.wiki_model.specs.Runs.{One}
 use Rattle.region_state.specs.AsModel.{answer_of}
-use Rattle.farm_core.specs.RequestMap.{open_at, snapped_view}
+use Rattle.farm_steps.specs.RequestMap.{open_at, snapped_view}
 use Rattle.farm_core.specs.FarmParts.{FarmParts}
 use Rattle.farm_core.specs.Runs.{StepsFrom}
 use Rattle.farm_core.proofs.Storing.{store_goes}

@@ -1,5 +1,0 @@
-use Rattle.farm_core.proofs.Rooms.{room_inserted, updated}
-use Rattle.farm_core.proofs.request_map.open.Goals as goal
-
-pub returns-in-Ok-clause-ok : goal.returns-in-Ok-clause-ok
-returns-in-Ok-clause-ok c = updated _ _ c.args.id _ c.in-Ok.ensures.updates.1 c.in-Ok.ensures.updates.2 (room_inserted _ _ c.args.id c.args.request c.in-Ok.ensures.entries)
