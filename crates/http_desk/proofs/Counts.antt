@@ -85,7 +85,7 @@ one_later (c ∷ x) = by (is_end c) (one_later x)
 
 -- heads
 
-end_feeds : (e : LineEnd) (x : Bytes) → feeds (print_end e ++ x) ≡ suc (feeds x)
+pub end_feeds : (e : LineEnd) (x : Bytes) → feeds (print_end e ++ x) ≡ suc (feeds x)
 end_feeds crlf x = refl
 end_feeds lf x = refl
 
@@ -110,12 +110,12 @@ section_feeds fs last x =
     let q = end_feeds last x in
     subst (λ z. length fs + 1 + feeds x ≤ feeds z) (sym e) (omega (arith, p, q))
 
-blank_feeds : (es : List LineEnd) (x : Bytes) → later_feeds (print_blank es ++ x) ≡ later_feeds x
+pub blank_feeds : (es : List LineEnd) (x : Bytes) → later_feeds (print_blank es ++ x) ≡ later_feeds x
 blank_feeds [] x = refl
 blank_feeds (crlf ∷ es) x = blank_feeds es x
 blank_feeds (lf ∷ es) x = blank_feeds es x
 
-method_feeds : (m x : Bytes) → 0 < length m → AllPass is_token_byte m → later_feeds (m ++ x) ≡ feeds (m ++ x)
+pub method_feeds : (m x : Bytes) → 0 < length m → AllPass is_token_byte m → later_feeds (m ++ x) ≡ feeds (m ++ x)
 method_feeds [] x some pass = absurd (omega (arith, some))
 method_feeds (c ∷ m) x some pass =
     let e : is_end c ≡ false = token_is_no_newline c (All-head (λ v. is_token_byte v ≡ true) c m pass) in

@@ -65,7 +65,7 @@ reads_cut linked k l k1 l1 p some full opens e = reads_at linked k l k1 l1 k1 Cu
 pub reads_large : (linked : Bool) (k : Bytes) (l : Option Bytes) (k1 : Bytes) (l1 : Option Bytes) → Grows k l k1 l1 → is_full k1 ≡ true → IsOpen (window k1) → IsRead linked k l k1 l1 (Refused (closing HeadTooLarge false))
 unfolding window is_full
 reads_large linked k l k1 l1 p full opens = reads_at linked k l k1 l1 k1 (Refused (closing HeadTooLarge false)) p
-    (λ s is. inr (inr (inl (refl, (looks_at k1 s).stays full, subst IsOpen (sym ((looks_at k1 s).same full)) opens))))
+    (λ s is. inr (inr (inl (refl, ((looks_at k1 s).stays full, subst IsOpen (sym ((looks_at k1 s).same full)) opens)))))
 
 pub never_more : (a b : Bytes) → NeverHasRequest a → NeverHasRequest (a ++ b)
 never_more a b never = λ more h rest reads. never (b ++ more) h rest (reads.0, sym (append_assoc a b more) ∙ reads.1)

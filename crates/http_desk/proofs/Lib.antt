@@ -9,3 +9,4 @@ pub mod Bars
 pub mod Named
 pub mod EditFields
 pub mod WindowLaws
+pub mod HeadsInWindows

@@ -4,8 +4,8 @@ use Rattle.std.proofs.Common.{◌++◌, subst, sym, ⊎_elim, []}
 use Rattle.httparse.specs.Grammar.{RequestHead, ReadsRequest, NeverHasRequest, EndsInTarget}
 use Rattle.wiki_model.specs.Bytes.{Bytes}
 use Rattle.wiki_model.specs.Asking as asking
-use Rattle.http_desk.specs.Incoming.{window, is_full, IsOpen}
-use Rattle.http_desk.specs.Laws.{Shows, RefusalsStay, RefusalsAreOne, MalformedLinesAreSeen, WindowsAreLimited}
+use Rattle.http_desk.specs.Incoming.{window, is_full, IsOpen, Shows}
+use Rattle.http_desk.specs.Laws.{RefusalsStay, RefusalsAreOne, MalformedLinesAreSeen, WindowsAreLimited}
 use Rattle.http_desk.proofs.Heads.{looks_at, few_lines, short, all_seen}
 use Rattle.http_desk.proofs.Inputs.{never_more}
 

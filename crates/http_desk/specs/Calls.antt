@@ -1,11 +1,12 @@
 -- What a request asks for, by its head and its body, or the first refusal.
-use Rattle.std.specs.Prelude.{ℕ, ◌+◌, ◌^◌, Bool, true, false, not, ◌==◌, ◌&&◌, ◌||◌, if◌then◌else◌, List, [], ◌∷◌, length, drop, map, filter, flat_map, take_while, Option, Some, None, unwrap_or, Result, Ok, Err, codes, nat_lt, nat_le, bytes_eq}
+use Rattle.std.specs.Prelude.{ℕ, ◌+◌, Bool, true, false, not, ◌==◌, ◌&&◌, ◌||◌, if◌then◌else◌, List, [], ◌∷◌, length, drop, map, filter, flat_map, take_while, Option, Some, None, unwrap_or, Result, Ok, Err, codes, nat_lt, nat_le, bytes_eq}
 use Rattle.std.specs.List.{list_all}
 use Rattle.std.specs.Str.{is_utf8}
 use Rattle.std.specs.Str.Lossy.{utf8_lossy}
 use Rattle.percent_encoding.specs.Percent.{percent_decode}
 use Rattle.form_urlencoded.specs.Form.{raw_pairs, decode}
 use Rattle.wiki_model.specs.Bytes.{Bytes, begins, pieces, first_of_list}
+use Rattle.wiki_model.specs.Limits.{text_max, number_limit}
 use Rattle.wiki_model.specs.Titles.{Title, TitleRefusal, title_of, is_token, with_line_feeds}
 use Rattle.wiki_model.specs.Cookies.{are_digits, number_in}
 use Rattle.wiki_model.specs.Asking.{Call, PageCall, EditCall, BatchCall, FeedCall, MessagesCall, Request, Fault, BadTarget, NoRoute, WrongMethod, BadTitle, BadField, LargeText}
@@ -98,7 +99,7 @@ page_call rest =
     if is_utf8 text && is_title text then Ok (PageCall (the_title text)) else Err BadTitle
 
 abbrev pub is_base : Bytes → Bool
-is_base text = are_digits 19 text && nat_lt (number_in text) (2 ^ 63)
+is_base text = are_digits 19 text && nat_lt (number_in text) number_limit
 
 abbrev pub base_in : Bytes → Option ℕ
 base_in text = if is_base text then Some (number_in text) else None
@@ -118,7 +119,7 @@ if_named name own value = if bytes_eq own name then value ∷ [] else []
 -- a text as it is stored; one that is too long is refused last
 abbrev pub edit_text : (title : Bytes) (base : ℕ) (token text : Bytes) → Result Call Fault
 edit_text title base token text =
-    if nat_lt 65_536 (length text) then Err (LargeText (length text)) else Ok (EditCall title base token text)
+    if nat_lt text_max (length text) then Err (LargeText (length text)) else Ok (EditCall title base token text)
 
 abbrev pub edit_fields : (title : Bytes) → (base token text : Option Bytes) → Result Call Fault
 edit_fields title (Some base) (Some token) (Some text) =

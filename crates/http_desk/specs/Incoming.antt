@@ -47,6 +47,12 @@ pub record IsOpen (bytes : Bytes) : Type 0 where
   pub no_head : HasNoRequest bytes
   pub may_become : MayBecomeRequest bytes
 
+-- the bytes show that an input that begins with them is refused so
+abbrev pub Shows : (bytes : Bytes) → Fault → Type 0
+Shows bytes HeadTooLarge = (is_full bytes ≡ true) × IsOpen (window bytes)
+Shows bytes NoHead = NeverHasRequest (window bytes)
+Shows bytes _ = ⊥
+
 abbrev pub closing : Fault → (head : Bool) → Refusal
 closing fault head = record { fault = fault; head = head; close = true }
 
@@ -73,8 +79,8 @@ abbrev pub Reads : (linked : Bool) → (input : Bytes) → Incoming → (rest : 
 Reads linked input got rest =
     ((got ≡ Closed) × (input ≡ []) × (rest ≡ []))
     ⊎ ((got ≡ Cut) × (input ≢ []) × (is_full input ≡ false) × IsOpen input)
-    ⊎ ((got ≡ Refused (closing HeadTooLarge false)) × (is_full input ≡ true) × IsOpen (window input))
-    ⊎ ((got ≡ Refused (closing NoHead false)) × NeverHasRequest (window input))
+    ⊎ ((got ≡ Refused (closing HeadTooLarge false)) × Shows input HeadTooLarge)
+    ⊎ ((got ≡ Refused (closing NoHead false)) × Shows input NoHead)
     ⊎ ((h : RequestHead) × (after : Bytes) × HasHead input h after
     × ReadsAfter linked (said_by h) (head_fault (said_by h)) after got rest)
 

@@ -1,5 +1,10 @@
 // What a reader may lean on, each as the contract of a function that does nothing, so that its proof is asked for.
-ghost use Rattle.http_desk.specs.Laws.{RefusalsStay, RefusalsAreOne, MalformedLinesAreSeen, WindowsAreLimited};
+ghost use Rattle.http_desk.specs.Laws.{HeadsAreFound, RefusalsStay, RefusalsAreOne, MalformedLinesAreSeen, WindowsAreLimited};
+
+/// An input that begins with a head within the limits is refused neither as too large nor as malformed.
+pub fn heads_are_found()
+    ensures { HeadsAreFound }
+{}
 
 /// A prefix of the input that shows that it begins with no head decides: whatever comes after it, the input is refused
 /// for the same reason. So the shortest such prefix tells the refusal, and the sizes of the reads are no matter.

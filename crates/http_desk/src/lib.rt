@@ -38,7 +38,9 @@ mod window;
 pub use calls::BATCH_MAX;
 pub use farm_base::Memory;
 pub use fields::{BODY_MAX, LENGTH_DIGITS};
-pub use laws::{malformed_lines_are_seen, refusals_are_one, refusals_stay, windows_are_limited};
+pub use laws::{
+    heads_are_found, malformed_lines_are_seen, refusals_are_one, refusals_stay, windows_are_limited,
+};
 pub use read::read_request;
 pub use refusal::{Fault, Refusal, refusal_reply};
 pub use reply::{Reply, Status, answer_bytes, head_bytes, head_of_length, sent_body};

@@ -22,7 +22,7 @@ use std::alloc::Global;
 /// beginning: hand in an empty list first, and then the same list again.
 ///
 /// The answer depends on the bytes alone, and not on how many of them each read gives. No more is read than shows
-/// the answer, but for what the last read gives besides. After a read that failed nothing of the input is lost.
+/// the answer, but for what the last read gives besides.
 pub fn read_request<X: Source>(alloc: Global, conn: &mut X, kept: &mut Vec<u8>) -> Incoming
     // What was read is what the input begins with, and the input goes on with what is kept and what is left.
     ensures read { IfSome (incoming_shown result)
