@@ -6,6 +6,13 @@ ghost use Rattle.http_desk.specs.AsModel.{route_shown};
 use farm_base::bytes;
 use http::Method;
 
+// What the path of a page begins with, and the whole paths of the form and of a batch.
+const PAGES: &[u8; 6] = b"/wiki/";
+
+const EDIT: &[u8; 5] = b"/edit";
+
+const BATCH: &[u8; 6] = b"/batch";
+
 /// Where a path leads.
 #[derive(Clone, Copy, Debug)]
 pub enum Route<'a> {
@@ -41,14 +48,14 @@ pub(crate) fn query_of(target: &[u8]) -> &[u8]
 pub(crate) fn route_of(path: &[u8]) -> Option<Route<'_>>
     ensures { option_map route_shown result ≡ route_of false path.now }
 {
-    if path.starts_with(b"/wiki/") && 6 < path.len() {
-        let (_, rest) = path.split_at(6);
+    if path.starts_with(PAGES) && PAGES.len() < path.len() {
+        let (_, rest) = path.split_at(PAGES.len());
         return Some(Route::Page(rest));
     }
-    if path == b"/edit".as_slice() {
+    if path == EDIT.as_slice() {
         return Some(Route::Edit);
     }
-    if path == b"/batch".as_slice() {
+    if path == BATCH.as_slice() {
         return Some(Route::Batch);
     }
     None
