@@ -108,6 +108,21 @@ fn a_refusal_is_a_line_of_text(rt: HostRuntime) -> Result<(), Fail> {
     Ok(())
 }
 
+const NOWHERE: &str = "\
+HTTP/1.1 404 Not Found\r
+Content-Type: text/plain; charset=utf-8\r
+Content-Length: 9\r
+Connection: close\r
+\r
+";
+
+#[test]
+fn a_refused_head_gets_the_length_and_no_body(rt: HostRuntime) -> Result<(), Fail> {
+    let answer = answer_to(rt.alloc(), b"HEAD /nowhere HTTP/1.0\r\n\r\n")?;
+    assert!(rt; answer.as_slice() == NOWHERE.as_bytes());
+    Ok(())
+}
+
 // A form whose text has so many characters.
 fn long_form(alloc: Global, length: usize) -> Result<String, Fail> {
     let text = "a".repeat(alloc, length)?;
