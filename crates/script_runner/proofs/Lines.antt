@@ -25,10 +25,10 @@ use Rattle.region_state.specs.declared.ask.Asked as code
 use Rattle.region_state.specs.declared.ask.Asked.TheVariants as asked
 use Rattle.region_state.specs.AsModel.{answer_of, asked_of, view_of}
 use Rattle.wiki_model.specs.Report.{answers_of, shown}
-use Rattle.farm_core.specs.declared.open_request.OpenRequest.{OpenRequest}
-use Rattle.farm_core.specs.declared.open_request.OpenRequest.TheVariants as point
+use Rattle.farm_steps.specs.declared.open_request.OpenRequest.{OpenRequest}
+use Rattle.farm_steps.specs.declared.open_request.OpenRequest.TheVariants as point
 use Rattle.farm_core.specs.FarmParts.{FarmParts, SameShape}
-use Rattle.farm_core.specs.RequestMap.{Entries, open_at, kept_at, unless_taken}
+use Rattle.farm_steps.specs.RequestMap.{Entries, open_at, kept_at, unless_taken}
 use Rattle.farm_core.specs.RequestLife.{Point, Closed, ArrivedEdit, BegunEdit, ArrivedView, WaitedView, LookedView, SnappedView, point_of, point_at, MovesOn, OpensRequest, LeavesRequests, BeginsAt, CommitsAt, WaitsAt, LooksFrom, SnapsAt, StoresFrom, Arrives, Begins, Commits, Waits, Looks, Snaps, Stores}
 use Rattle.farm_core.specs.Runs.{Stands, Steps, turn_of}
 use Rattle.script_runner.specs.MakeLine.{opens, shown_once, IsMissed, GoesOnByLine, MakesLine}

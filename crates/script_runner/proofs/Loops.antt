@@ -14,7 +14,7 @@ use Rattle.drill_script.specs.Summary.{IsSummaryOf, IsOrdered}
 use Rattle.drill_script.specs.declared.script_line.ScriptLine.{ScriptLine}
 use Rattle.drill_script.specs.declared.count_answers.Summary.{Summary}
 use Rattle.farm_core.specs.FarmParts.{FarmParts, IsWhole}
-use Rattle.farm_core.specs.RequestMap.{open_at}
+use Rattle.farm_steps.specs.RequestMap.{open_at}
 use Rattle.script_runner.specs.MakeLine.{IsReadyFor, MakesLine}
 use Rattle.script_runner.specs.RunSoFar.{line_report, answers_more}
 use Rattle.script_runner.specs.RunScript.{IsRunnable, IsUnderWay, IsReported, Continues, Tells, IsTelling, IsCounting, Reports, Counts}

@@ -14,8 +14,8 @@ use Rattle.drill_script.specs.AsModel.{line_of}
 use Rattle.drill_script.specs.declared.script_line.ScriptLine.{ScriptLine}
 use Rattle.drill_script.specs.declared.script_line.ScriptLine.TheVariants as line
 use Rattle.farm_core.specs.FarmParts.{FarmParts}
-use Rattle.farm_core.specs.RequestMap.{open_at}
-use Rattle.farm_core.specs.ViewSteps.{region_at}
+use Rattle.farm_steps.specs.RequestMap.{open_at}
+use Rattle.farm_steps.specs.ViewSteps.{region_at}
 use Rattle.script_runner.specs.MakeLine.{IsReadyFor, opens}
 use Rattle.script_runner.specs.RunScript.{AllFollow, NoneOpens}
 

@@ -13,7 +13,7 @@ use Rattle.wiki_model.specs.Report.{no_readings, readings_after}
 use Rattle.drill_script.specs.AsModel.{line_of}
 use Rattle.drill_script.specs.declared.script_line.ScriptLine.{ScriptLine}
 use Rattle.farm_core.specs.FarmParts.{FarmParts, IsWhole}
-use Rattle.farm_core.specs.RequestMap.{open_at}
+use Rattle.farm_steps.specs.RequestMap.{open_at}
 use Rattle.farm_core.specs.Runs.{Stands}
 use Rattle.script_runner.specs.MakeLine.{IsReadyFor, MakesLine, opens}
 use Rattle.script_runner.specs.RunSoFar.{readings_in, line_report, answers_more}
