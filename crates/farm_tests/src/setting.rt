@@ -1,4 +1,4 @@
-// Titles, edits and entries for all tests of this crate.
+// What must hold, and titles, edits and entries for all tests of this crate.
 ghost use Rattle.std.specs.Prelude.{◌≡◌, length, IfOk};
 
 use commit_feed::Entry;
@@ -8,6 +8,11 @@ use region_state::RegionPlan;
 use std::alloc::Global;
 use std::test::Fail;
 use wiki_titles::{ClientId, Text, Title, Token};
+
+/// Fails with these words where it does not hold.
+pub fn must(holds: bool, words: &str) -> Result<(), Fail> {
+    if holds { Ok(()) } else { Err(Fail::new(words)) }
+}
 
 pub fn title_of(alloc: Global, typed: &str) -> Result<Title, Fail> {
     Ok(Title::parse(alloc, typed)?)

@@ -4,3 +4,5 @@ pub mod Closing
 pub mod RunEnds
 pub mod Scripts
 pub mod Farms
+pub mod Refusals
+pub mod Complete

@@ -9,7 +9,7 @@ use Rattle.wiki_model.specs.World.{World}
 use Rattle.wiki_model.specs.Script.{Line, IsFirstFault}
 use Rattle.farm_base.specs.Exposed.{Adds, AddsPrefix, Stays, ReadsAll}
 use Rattle.wiki_cli.specs.Command.{store_fault_line}
-use Rattle.wiki_cli.specs.Ends.{IsWritten, OfScript, Writes, EndsReport, EndsSummary, IsRefusedBy}
+use Rattle.wiki_cli.specs.Ends.{Kept, OfScript, IsReportFrom, IsCutReportFrom, IsReportOf, IsCutReportOf, EndsReport, EndsSummary, Drills, IsRefusedBy}
 use Rattle.wiki_cli.specs.declared.status.Status.{Status}
 use Rattle.wiki_cli.specs.declared.status.Status.TheVariants as status
 
@@ -48,10 +48,16 @@ counted_before input before later Claim up s = record { lines = s.lines; began =
 whole_input : (all bytes rest : Bytes) → all ≡ bytes ++ rest → (length bytes ≤ script_max → rest ≡ []) → length bytes ≤ script_max → all ≡ bytes
 whole_input all bytes rest e none few = e ∙ ap (λ r. bytes ++ r) (none few) ∙ append-nil bytes
 
-pub of_input : (old new : Option Bytes) (bytes : Bytes) (before : ℕ) (Claim : World → List Line → Type 0) → ReadsAll script_max old new bytes → OfScript bytes before Claim → IfSome old (λ all. OfScript all before Claim)
-of_input None new bytes before Claim reads s = tt
-of_input (Some all) None bytes before Claim reads s = absurd reads.0
-of_input (Some all) (Some rest) bytes before Claim reads s = subst (λ (b : Bytes). OfScript b before Claim) (sym (whole_input all bytes rest reads.0 reads.1 s.is_script.small)) s
+pub drills_input : (old new : Option Bytes) (bytes : Bytes) (E : Type 0) (before : ℕ) (kept : Kept) (failed : Type 0) (a b : Option Bytes) (said : Status) → ReadsAll script_max old new bytes → (E → Drills bytes before kept failed a b said)
+    → IfSome old (λ all. E → Drills all before kept failed a b said)
+drills_input None new bytes E before kept failed a b said reads drills = tt
+drills_input (Some all) None bytes E before kept failed a b said reads drills = absurd reads.0
+drills_input (Some all) (Some rest) bytes E before kept failed a b said reads drills = λ e.
+    report_as (IsReportOf bytes before kept) (IsCutReportOf bytes before kept) (IsReportOf all before kept) (IsCutReportOf all before kept) failed a b said
+    (λ t s. of_whole (λ start lines. IsReportFrom start lines kept t) s) (λ t s. of_whole (λ start lines. IsCutReportFrom start lines kept t) s) (drills e)
+  where
+    of_whole : (Claim : World → List Line → Type 0) → OfScript bytes before Claim → OfScript all before Claim
+    of_whole Claim s = subst (λ (x : Bytes). OfScript x before Claim) (sym (whole_input all bytes rest reads.0 reads.1 s.is_script.small)) s
 
 pub read_to_end : (old new : Option Bytes) (bytes : Bytes) (before : ℕ) (Claim : World → List Line → Type 0) → ReadsAll script_max old new bytes → OfScript bytes before Claim → IsAtEnd new
 read_to_end old new bytes before Claim reads s = reads.1 s.is_script.small
