@@ -8,7 +8,8 @@ use revision_keeper::{KeepFault, Keeper, MemKeeper};
 use std::alloc::Global;
 use wiki_titles::{ClientId, Title, Token};
 
-/// An empty keeper in memory. The calls of `start` and of `len` in its lists fail, counted from 1; each failure is counted.
+/// An empty keeper in memory. The calls of `start` and of `len` in its lists fail, counted from 1; each failure is
+/// counted.
 #[derive(Drop)]
 pub struct FailingKeeper {
     inner: MemKeeper,
