@@ -1,5 +1,5 @@
 // Which slot a title has.
-use crate::setting::title_of;
+use crate::setting::title_named;
 use slot_cache::{SLOTS_MAX, SLOTS_MIN, slot_of};
 use std::test::Fail;
 
@@ -18,7 +18,7 @@ const SLOTS: [(&str, u32, u32); 8] = [
 #[test]
 fn the_titles_a_to_h_have_known_slots(rt: HostRuntime) -> Result<(), Fail> {
     for (text, of_256, of_65_536) in SLOTS {
-        let title = title_of(rt.alloc(), text)?;
+        let title = title_named(rt.alloc(), text)?;
         assert_eq!(rt; slot_of(&title, SLOTS_MIN), of_256);
         assert_eq!(rt; slot_of(&title, SLOTS_MAX), of_65_536);
     }
