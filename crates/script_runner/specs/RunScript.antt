@@ -1,5 +1,5 @@
 -- What a run of a whole script does: the steps of all lines, in order, and what is told of their answers.
-use Rattle.std.specs.Prelude.{ℕ, ◌≡◌, ◌+◌, ◌*◌, ◌<◌, ◌≤◌, Bool, false, List, [], ◌∷◌, ◌++◌, length, Option, None, Some}
+use Rattle.std.specs.Prelude.{ℕ, ◌≡◌, ◌+◌, ◌*◌, ◌<◌, ◌≤◌, false, List, [], ◌∷◌, ◌++◌, length, Option, None, Some}
 use Rattle.wiki_model.specs.declared.Region.TheVariants.{Home, West}
 use Rattle.wiki_model.specs.declared.Readings.{Readings}
 use Rattle.wiki_model.specs.Bytes.{Bytes}
@@ -12,7 +12,6 @@ use Rattle.wiki_model.specs.Steps.{Rose}
 use Rattle.wiki_model.specs.Script.{Line, MayFollow, replicas_of}
 use Rattle.wiki_model.specs.Report.{no_readings, report_line}
 use Rattle.farm_base.specs.Exposed.{Adds, AddsPrefix}
-use Rattle.drill_script.specs.AsModel.{line_of}
 use Rattle.drill_script.specs.ReadScript.{lines_of}
 use Rattle.drill_script.specs.Summary.{IsSummaryOf, IsOrdered}
 use Rattle.drill_script.specs.declared.script_line.ScriptLine.{ScriptLine}
