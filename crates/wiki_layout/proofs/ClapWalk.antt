@@ -1,4 +1,5 @@
--- Words that are options have no fault in `clap`, and its matches have their values. The walk stands between two options in
+-- Words that are options have no fault in `clap`, and its matches have their values. The walk stands between two
+-- options in
 -- nine states only; from each of them an option leads to another, in one word or in two.
 use Rattle.std.proofs.Common.{◌≡◌, ℕ, true, false, List, [], ◌∷◌, ◌++◌, Option, Some, None, refl, codes, sym, ap, subst, ◌∙◌, arith, inl, inr}
 use Rattle.std.specs.Prelude.{◌==◌, bytes_eq, fold, is_some, slice_index, nat_lt, ◌<◌, ◌≤◌, decimal}
@@ -25,7 +26,8 @@ plain_first c rest e = (rw e refl, rw e refl, rw e refl)
 plain_empty : IsPlain []
 plain_empty = (refl, refl, refl)
 
-plain_met : (rs : List Rule) (waiting : Waiting) (position : ℕ) (id word : Text) (h : Held) → IsPlain word → word_met rs [] false (option id) position word h ≡ plain_word rs (option id) word h
+plain_met : (rs : List Rule) (waiting : Waiting) (position : ℕ) (id word : Text) (h : Held) → IsPlain word
+    → word_met rs [] false (option id) position word h ≡ plain_word rs (option id) word h
 plain_met rs waiting position id word h p = rw (p.0, p.1, p.2) refl
 
 plain_fault : (s : Shape) (id word : Text) (h : Held) → IsPlain word → word_fault s [] false (option id) word h ≡ []
@@ -40,10 +42,22 @@ abbrev Pending : Type 0
 Pending = Option (Text × List Text)
 
 abbrev between : List Row → Pending → Walk
-between rows pending = record { held = record { rows = rows; pending = pending; skip = 0 }; waiting = idle; position = 1; is_trailing = false; stopped = None }
+between rows pending = record {
+  held = record { rows = rows; pending = pending; skip = 0 };
+  waiting = idle;
+  position = 1;
+  is_trailing = false;
+  stopped = None;
+}
 
 abbrev after_name : List Row → Text → Walk
-after_name rows id = record { held = record { rows = rows; pending = Some (id, []); skip = 0 }; waiting = option id; position = 1; is_trailing = false; stopped = None }
+after_name rows id = record {
+  held = record { rows = rows; pending = Some (id, []); skip = 0 };
+  waiting = option id;
+  position = 1;
+  is_trailing = false;
+  stopped = None;
+}
 
 record Goes (from : Walk) (words : List Text) (to : Walk) : Type 0 where
   clean : walk_fault shape [] from words ≡ []
@@ -53,15 +67,22 @@ stays : (w : Walk) → Goes w [] w
 unfolding walk_fault
 stays w = record { clean = refl; ends = refl }
 
-goes_on : (w v to : Walk) (word : Text) (rest : List Text) → turn_fault shape [] w word ≡ [] → walked (built serve_app).top.rules [] w word ≡ v → Goes v rest to → Goes w (word ∷ rest) to
+goes_on : (w v to : Walk) (word : Text) (rest : List Text) → turn_fault shape [] w word ≡ []
+    → walked (built serve_app).top.rules [] w word ≡ v → Goes v rest to → Goes w (word ∷ rest) to
 unfolding walk_fault
 goes_on w v to word rest calm is goes = record {
   clean = rw (calm, is) goes.clean;
   ends = ap (λ x. fold (walked (built serve_app).top.rules []) x rest) is ∙ goes.ends;
 }
 
-value_turn : (id : Text) (rows : List Row) (word : Text) → IsPlain word → turn_fault shape [] (after_name rows id) word ≡ []
-value_turn id rows word p = rw (plain_fault shape id word (after_name rows id).held p, plain_met shape.rules (option id) 1 id word (after_name rows id).held p) refl
+value_turn : (id : Text) (rows : List Row) (word : Text) → IsPlain word
+    → turn_fault shape [] (after_name rows id) word ≡ []
+value_turn id rows word p =
+    rw (
+      plain_fault shape id word (after_name rows id).held p,
+      plain_met shape.rules (option id) 1 id word
+          (after_name rows id).held p,
+    ) refl
 
 -- the rows of an option that was used first
 abbrev one_row : Text → Text → List Row
@@ -70,73 +91,128 @@ one_row id value = settled_rows shape.rules (Some (id, value ∷ [])) []
 abbrev two_rows : Text → Text → Text → Text → List Row
 two_rows first value second other = settled_rows shape.rules (Some (second, other ∷ [])) (one_row first value)
 
-value_walk_connections : (rows : List Row) (word : Text) → IsPlain word → walked shape.rules [] (after_name rows (codes "connections")) word ≡ between rows (Some (codes "connections", word ∷ []))
-unfolding walked
-value_walk_connections rows word p = ap (λ m. after_step shape.rules word (after_name rows (codes "connections")) m.0 m.1) (plain_met shape.rules (option (codes "connections")) 1 (codes "connections") word (after_name rows (codes "connections")).held p)
+-- where the walk can stand between two options: nothing was met; an option in two words; one in one word; one in one
+-- word
+-- and then the other in two; both, the last in one word
+abbrev count : Text
+count = codes "connections"
 
--- `connections` in two words, from nothing or after the other option, which was in one word (_after_one) or in two (_after_two)
-two_connections : (rows : List Row) (value : Text) (rest : List Text) (to : Walk) → IsPlain value → Goes (between rows (Some (codes "connections", value ∷ []))) rest to → Goes (between rows None) (codes "--connections" ∷ value ∷ rest) to
+abbrev file : Text
+file = codes "store"
+
+abbrev start : Walk
+start = between [] None
+
+abbrev pending : (id value : Text) → Walk
+pending id value = between [] (Some (id, value ∷ []))
+
+abbrev used : (id value : Text) → Walk
+used id value = between (one_row id value) None
+
+abbrev used_pending : (id value other more : Text) → Walk
+used_pending id value other more = between (one_row id value) (Some (other, more ∷ []))
+
+abbrev used_both : (id value other more : Text) → Walk
+used_both id value other more = between (two_rows id value other more) None
+
+value_walk_connections : (rows : List Row) (word : Text) → IsPlain word
+    → walked shape.rules [] (after_name rows count) word ≡ between rows (Some (count, word ∷ []))
+unfolding walked
+value_walk_connections rows word p =
+    ap (λ m. after_step shape.rules word (after_name rows count) m.0 m.1)
+    (plain_met shape.rules (option count) 1 count word (after_name rows count).held p)
+
+-- `connections` in two words, from nothing or after the other option, which was in one word (_after_one) or in two
+-- (_after_two)
+two_connections : (rows : List Row) (value : Text) (rest : List Text) (to : Walk) → IsPlain value
+    → Goes (between rows (Some (count, value ∷ []))) rest to
+    → Goes (between rows None) (codes "--connections" ∷ value ∷ rest) to
 unfolding clap_on_literals
 two_connections rows value rest to p goes =
-    goes_on (between rows None) (after_name rows (codes "connections")) to (codes "--connections") (value ∷ rest) refl refl
-    (goes_on (after_name rows (codes "connections")) (between rows (Some (codes "connections", value ∷ []))) to value rest (value_turn (codes "connections") rows value p) (value_walk_connections rows value p) goes)
+    goes_on (between rows None) (after_name rows count) to (codes "--connections") (value ∷ rest) refl refl
+    (goes_on (after_name rows count) (between rows (Some (count, value ∷ []))) to value rest
+    (value_turn count rows value p) (value_walk_connections rows value p) goes)
 
-two_connections_after_two : (first value : Text) (rest : List Text) (to : Walk) → IsPlain value → Goes (between (one_row (codes "store") first) (Some (codes "connections", value ∷ []))) rest to
-    → Goes (between [] (Some (codes "store", first ∷ []))) (codes "--connections" ∷ value ∷ rest) to
+two_connections_after_two : (first value : Text) (rest : List Text) (to : Walk) → IsPlain value
+    → Goes (used_pending file first count value) rest to
+    → Goes (pending file first) (codes "--connections" ∷ value ∷ rest) to
 unfolding clap_on_literals
 two_connections_after_two first value rest to p goes =
-    goes_on (between [] (Some (codes "store", first ∷ []))) (after_name (one_row (codes "store") first) (codes "connections")) to (codes "--connections") (value ∷ rest) refl refl
-    (goes_on (after_name (one_row (codes "store") first) (codes "connections")) (between (one_row (codes "store") first) (Some (codes "connections", value ∷ []))) to value rest
-    (value_turn (codes "connections") (one_row (codes "store") first) value p) (value_walk_connections (one_row (codes "store") first) value p) goes)
+    goes_on (pending file first) (after_name (one_row file first) count) to (codes "--connections")
+    (value ∷ rest) refl refl
+    (goes_on (after_name (one_row file first) count) (used_pending file first count value) to value rest
+    (value_turn count (one_row file first) value p) (value_walk_connections (one_row file first) value p) goes)
 
 -- in one word
-one_connections : (value : Text) (rest : List Text) (to : Walk) → Goes (between (one_row (codes "connections") value) None) rest to → Goes (between [] None) ((codes "--connections=" ++ value) ∷ rest) to
+one_connections : (value : Text) (rest : List Text) (to : Walk)
+    → Goes (used count value) rest to
+    → Goes start ((codes "--connections=" ++ value) ∷ rest) to
 unfolding clap_on_literals
-one_connections value rest to goes = goes_on (between [] None) (between (one_row (codes "connections") value) None) to (codes "--connections=" ++ value) rest refl refl goes
+one_connections value rest to goes =
+    goes_on start (used count value) to (codes "--connections=" ++ value) rest refl refl goes
 
-one_connections_after_two : (first value : Text) (rest : List Text) (to : Walk) → Goes (between (two_rows (codes "store") first (codes "connections") value) None) rest to
-    → Goes (between [] (Some (codes "store", first ∷ []))) ((codes "--connections=" ++ value) ∷ rest) to
+one_connections_after_two : (first value : Text) (rest : List Text) (to : Walk)
+    → Goes (used_both file first count value) rest to
+    → Goes (pending file first) ((codes "--connections=" ++ value) ∷ rest) to
 unfolding clap_on_literals
-one_connections_after_two first value rest to goes = goes_on (between [] (Some (codes "store", first ∷ []))) (between (two_rows (codes "store") first (codes "connections") value) None) to (codes "--connections=" ++ value) rest refl refl goes
+one_connections_after_two first value rest to goes =
+    goes_on (pending file first) (used_both file first count value) to
+    (codes "--connections=" ++ value) rest refl refl goes
 
-one_connections_after_one : (first value : Text) (rest : List Text) (to : Walk) → Goes (between (two_rows (codes "store") first (codes "connections") value) None) rest to
-    → Goes (between (one_row (codes "store") first) None) ((codes "--connections=" ++ value) ∷ rest) to
+one_connections_after_one : (first value : Text) (rest : List Text) (to : Walk)
+    → Goes (used_both file first count value) rest to
+    → Goes (used file first) ((codes "--connections=" ++ value) ∷ rest) to
 unfolding clap_on_literals
-one_connections_after_one first value rest to goes = goes_on (between (one_row (codes "store") first) None) (between (two_rows (codes "store") first (codes "connections") value) None) to (codes "--connections=" ++ value) rest refl refl goes
+one_connections_after_one first value rest to goes =
+    goes_on (used file first) (used_both file first count value) to
+    (codes "--connections=" ++ value) rest refl refl goes
 
-value_walk_store : (rows : List Row) (word : Text) → IsPlain word → walked shape.rules [] (after_name rows (codes "store")) word ≡ between rows (Some (codes "store", word ∷ []))
+value_walk_store : (rows : List Row) (word : Text) → IsPlain word
+    → walked shape.rules [] (after_name rows file) word ≡ between rows (Some (file, word ∷ []))
 unfolding walked
-value_walk_store rows word p = ap (λ m. after_step shape.rules word (after_name rows (codes "store")) m.0 m.1) (plain_met shape.rules (option (codes "store")) 1 (codes "store") word (after_name rows (codes "store")).held p)
+value_walk_store rows word p =
+    ap (λ m. after_step shape.rules word (after_name rows file) m.0 m.1)
+    (plain_met shape.rules (option file) 1 file word (after_name rows file).held p)
 
--- `store` in two words, from nothing or after the other option, which was in one word (_after_one) or in two (_after_two)
-two_store : (rows : List Row) (value : Text) (rest : List Text) (to : Walk) → IsPlain value → Goes (between rows (Some (codes "store", value ∷ []))) rest to → Goes (between rows None) (codes "--store" ∷ value ∷ rest) to
+-- `store` in two words, from nothing or after the other option, which was in one word (_after_one) or in two
+-- (_after_two)
+two_store : (rows : List Row) (value : Text) (rest : List Text) (to : Walk) → IsPlain value
+    → Goes (between rows (Some (file, value ∷ []))) rest to
+    → Goes (between rows None) (codes "--store" ∷ value ∷ rest) to
 unfolding clap_on_literals
 two_store rows value rest to p goes =
-    goes_on (between rows None) (after_name rows (codes "store")) to (codes "--store") (value ∷ rest) refl refl
-    (goes_on (after_name rows (codes "store")) (between rows (Some (codes "store", value ∷ []))) to value rest (value_turn (codes "store") rows value p) (value_walk_store rows value p) goes)
+    goes_on (between rows None) (after_name rows file) to (codes "--store") (value ∷ rest) refl refl
+    (goes_on (after_name rows file) (between rows (Some (file, value ∷ []))) to value rest
+    (value_turn file rows value p) (value_walk_store rows value p) goes)
 
-two_store_after_two : (first value : Text) (rest : List Text) (to : Walk) → IsPlain value → Goes (between (one_row (codes "connections") first) (Some (codes "store", value ∷ []))) rest to
-    → Goes (between [] (Some (codes "connections", first ∷ []))) (codes "--store" ∷ value ∷ rest) to
+two_store_after_two : (first value : Text) (rest : List Text) (to : Walk) → IsPlain value
+    → Goes (used_pending count first file value) rest to
+    → Goes (pending count first) (codes "--store" ∷ value ∷ rest) to
 unfolding clap_on_literals
 two_store_after_two first value rest to p goes =
-    goes_on (between [] (Some (codes "connections", first ∷ []))) (after_name (one_row (codes "connections") first) (codes "store")) to (codes "--store") (value ∷ rest) refl refl
-    (goes_on (after_name (one_row (codes "connections") first) (codes "store")) (between (one_row (codes "connections") first) (Some (codes "store", value ∷ []))) to value rest
-    (value_turn (codes "store") (one_row (codes "connections") first) value p) (value_walk_store (one_row (codes "connections") first) value p) goes)
+    goes_on (pending count first) (after_name (one_row count first) file) to (codes "--store") (value ∷ rest) refl refl
+    (goes_on (after_name (one_row count first) file) (used_pending count first file value) to value rest
+    (value_turn file (one_row count first) value p) (value_walk_store (one_row count first) value p) goes)
 
 -- in one word
-one_store : (value : Text) (rest : List Text) (to : Walk) → Goes (between (one_row (codes "store") value) None) rest to → Goes (between [] None) ((codes "--store=" ++ value) ∷ rest) to
+one_store : (value : Text) (rest : List Text) (to : Walk) → Goes (used file value) rest to
+    → Goes start ((codes "--store=" ++ value) ∷ rest) to
 unfolding clap_on_literals
-one_store value rest to goes = goes_on (between [] None) (between (one_row (codes "store") value) None) to (codes "--store=" ++ value) rest refl refl goes
+one_store value rest to goes = goes_on start (used file value) to (codes "--store=" ++ value) rest refl refl goes
 
-one_store_after_two : (first value : Text) (rest : List Text) (to : Walk) → Goes (between (two_rows (codes "connections") first (codes "store") value) None) rest to
-    → Goes (between [] (Some (codes "connections", first ∷ []))) ((codes "--store=" ++ value) ∷ rest) to
+one_store_after_two : (first value : Text) (rest : List Text) (to : Walk)
+    → Goes (used_both count first file value) rest to
+    → Goes (pending count first) ((codes "--store=" ++ value) ∷ rest) to
 unfolding clap_on_literals
-one_store_after_two first value rest to goes = goes_on (between [] (Some (codes "connections", first ∷ []))) (between (two_rows (codes "connections") first (codes "store") value) None) to (codes "--store=" ++ value) rest refl refl goes
+one_store_after_two first value rest to goes =
+    goes_on (pending count first) (used_both count first file value) to (codes "--store=" ++ value) rest refl refl goes
 
-one_store_after_one : (first value : Text) (rest : List Text) (to : Walk) → Goes (between (two_rows (codes "connections") first (codes "store") value) None) rest to
-    → Goes (between (one_row (codes "connections") first) None) ((codes "--store=" ++ value) ∷ rest) to
+one_store_after_one : (first value : Text) (rest : List Text) (to : Walk)
+    → Goes (used_both count first file value) rest to
+    → Goes (used count first) ((codes "--store=" ++ value) ∷ rest) to
 unfolding clap_on_literals
-one_store_after_one first value rest to goes = goes_on (between (one_row (codes "connections") first) None) (between (two_rows (codes "connections") first (codes "store") value) None) to (codes "--store=" ++ value) rest refl refl goes
+one_store_after_one first value rest to goes =
+    goes_on (used count first) (used_both count first file value) to (codes "--store=" ++ value) rest refl refl goes
 
 -- what is left of the faults at the end of the walk
 abbrev level_by : Kinds → Walk → Kinds
@@ -149,58 +225,120 @@ record EndsWell (from : Walk) (words : List Text) (connections store : Option Te
   to : Walk
   goes : Goes from words to
   clean : level_by [] to ≡ []
-  connections_are : first_of (codes "connections") (finished shape.rules to.held) ≡ connections
-  store_is : first_of (codes "store") (finished shape.rules to.held) ≡ store
+  connections_are : first_of count (finished shape.rules to.held) ≡ connections
+  store_is : first_of file (finished shape.rules to.held) ≡ store
 
 pub record ClapReads (words : List Text) (connections store : Option Text) : Type 0 where
   pub clean : fault_of serve_app words ≡ []
-  pub connections_are : first_of (codes "connections") (matches_of serve_app words) ≡ connections
-  pub store_is : first_of (codes "store") (matches_of serve_app words) ≡ store
+  pub connections_are : first_of count (matches_of serve_app words) ≡ connections
+  pub store_is : first_of file (matches_of serve_app words) ≡ store
 
-reads_of : (words : List Text) (connections store : Option Text) → EndsWell (walk_from nothing_held) words connections store → ClapReads words connections store
+reads_of : (words : List Text) (connections store : Option Text)
+    → EndsWell (walk_from nothing_held) words connections store → ClapReads words connections store
 reads_of words connections store end = record {
-  clean = ap (λ k. level_by k (fold (walked shape.rules []) (walk_from nothing_held) words)) end.goes.clean ∙ (ap (λ w. level_by [] w) end.goes.ends ∙ end.clean);
-  connections_are = ap (λ w. first_of (codes "connections") (finished shape.rules w.held)) end.goes.ends ∙ end.connections_are;
-  store_is = ap (λ w. first_of (codes "store") (finished shape.rules w.held)) end.goes.ends ∙ end.store_is;
+  clean =
+      ap (λ k. level_by k (fold (walked shape.rules []) (walk_from nothing_held) words)) end.goes.clean
+      ∙ (ap (λ w. level_by [] w) end.goes.ends ∙ end.clean);
+  connections_are =
+      ap (λ w. first_of count (finished shape.rules w.held)) end.goes.ends ∙ end.connections_are;
+  store_is = ap (λ w. first_of file (finished shape.rules w.held)) end.goes.ends ∙ end.store_is;
 }
 
 -- the nine ends
 
-end_empty : EndsWell (between [] None) [] None None
+end_empty : EndsWell start [] None None
 unfolding clap_on_literals
-end_empty = record { to = between [] None; goes = stays (between [] None); clean = refl; connections_are = refl; store_is = refl }
+end_empty = record {
+  to = start;
+  goes = stays start;
+  clean = refl;
+  connections_are = refl;
+  store_is = refl;
+}
 
-end_connections : (v : Text) → EndsWell (between [] (Some (codes "connections", v ∷ []))) [] (Some v) None
+end_connections : (v : Text) → EndsWell (pending count v) [] (Some v) None
 unfolding clap_on_literals
-end_connections v = record { to = between [] (Some (codes "connections", v ∷ [])); goes = stays (between [] (Some (codes "connections", v ∷ []))); clean = refl; connections_are = refl; store_is = refl }
+end_connections v = record {
+  to = pending count v;
+  goes = stays (pending count v);
+  clean = refl;
+  connections_are = refl;
+  store_is = refl;
+}
 
-end_store : (v : Text) → EndsWell (between [] (Some (codes "store", v ∷ []))) [] None (Some v)
+end_store : (v : Text) → EndsWell (pending file v) [] None (Some v)
 unfolding clap_on_literals
-end_store v = record { to = between [] (Some (codes "store", v ∷ [])); goes = stays (between [] (Some (codes "store", v ∷ []))); clean = refl; connections_are = refl; store_is = refl }
+end_store v = record {
+  to = pending file v;
+  goes = stays (pending file v);
+  clean = refl;
+  connections_are = refl;
+  store_is = refl;
+}
 
-end_row_connections : (v : Text) → EndsWell (between (one_row (codes "connections") v) None) [] (Some v) None
+end_row_connections : (v : Text) → EndsWell (used count v) [] (Some v) None
 unfolding clap_on_literals
-end_row_connections v = record { to = between (one_row (codes "connections") v) None; goes = stays (between (one_row (codes "connections") v) None); clean = refl; connections_are = refl; store_is = refl }
+end_row_connections v = record {
+  to = used count v;
+  goes = stays (used count v);
+  clean = refl;
+  connections_are = refl;
+  store_is = refl;
+}
 
-end_row_store : (v : Text) → EndsWell (between (one_row (codes "store") v) None) [] None (Some v)
+end_row_store : (v : Text) → EndsWell (used file v) [] None (Some v)
 unfolding clap_on_literals
-end_row_store v = record { to = between (one_row (codes "store") v) None; goes = stays (between (one_row (codes "store") v) None); clean = refl; connections_are = refl; store_is = refl }
+end_row_store v = record {
+  to = used file v;
+  goes = stays (used file v);
+  clean = refl;
+  connections_are = refl;
+  store_is = refl;
+}
 
-end_row_connections_store : (v w : Text) → EndsWell (between (one_row (codes "connections") v) (Some (codes "store", w ∷ []))) [] (Some v) (Some w)
+end_row_connections_store : (v w : Text)
+    → EndsWell (used_pending count v file w) [] (Some v) (Some w)
 unfolding clap_on_literals
-end_row_connections_store v w = record { to = between (one_row (codes "connections") v) (Some (codes "store", w ∷ [])); goes = stays (between (one_row (codes "connections") v) (Some (codes "store", w ∷ []))); clean = refl; connections_are = refl; store_is = refl }
+end_row_connections_store v w = record {
+  to = used_pending count v file w;
+  goes = stays (used_pending count v file w);
+  clean = refl;
+  connections_are = refl;
+  store_is = refl;
+}
 
-end_row_store_connections : (v w : Text) → EndsWell (between (one_row (codes "store") v) (Some (codes "connections", w ∷ []))) [] (Some w) (Some v)
+end_row_store_connections : (v w : Text)
+    → EndsWell (used_pending file v count w) [] (Some w) (Some v)
 unfolding clap_on_literals
-end_row_store_connections v w = record { to = between (one_row (codes "store") v) (Some (codes "connections", w ∷ [])); goes = stays (between (one_row (codes "store") v) (Some (codes "connections", w ∷ []))); clean = refl; connections_are = refl; store_is = refl }
+end_row_store_connections v w = record {
+  to = used_pending file v count w;
+  goes = stays (used_pending file v count w);
+  clean = refl;
+  connections_are = refl;
+  store_is = refl;
+}
 
-end_rows_connections_store : (v w : Text) → EndsWell (between (two_rows (codes "connections") v (codes "store") w) None) [] (Some v) (Some w)
+end_rows_connections_store : (v w : Text)
+    → EndsWell (used_both count v file w) [] (Some v) (Some w)
 unfolding clap_on_literals
-end_rows_connections_store v w = record { to = between (two_rows (codes "connections") v (codes "store") w) None; goes = stays (between (two_rows (codes "connections") v (codes "store") w) None); clean = refl; connections_are = refl; store_is = refl }
+end_rows_connections_store v w = record {
+  to = used_both count v file w;
+  goes = stays (used_both count v file w);
+  clean = refl;
+  connections_are = refl;
+  store_is = refl;
+}
 
-end_rows_store_connections : (v w : Text) → EndsWell (between (two_rows (codes "store") v (codes "connections") w) None) [] (Some w) (Some v)
+end_rows_store_connections : (v w : Text)
+    → EndsWell (used_both file v count w) [] (Some w) (Some v)
 unfolding clap_on_literals
-end_rows_store_connections v w = record { to = between (two_rows (codes "store") v (codes "connections") w) None; goes = stays (between (two_rows (codes "store") v (codes "connections") w) None); clean = refl; connections_are = refl; store_is = refl }
+end_rows_store_connections v w = record {
+  to = used_both file v count w;
+  goes = stays (used_both file v count w);
+  clean = refl;
+  connections_are = refl;
+  store_is = refl;
+}
 
 -- values are plain words
 
@@ -216,59 +354,91 @@ plain_decimal n some most =
 plain_path : (path : List ℕ) → is_path path ≡ true → IsPlain path
 plain_path path e = plain_of path (grind (arith, nat_tests, e))
 
-lift : (from mid : Walk) (words rest : List Text) (a b : Option Text) → ((to : Walk) → Goes mid rest to → Goes from words to) → EndsWell mid rest a b → EndsWell from words a b
-lift from mid words rest a b f end = record { to = end.to; goes = f end.to end.goes; clean = end.clean; connections_are = end.connections_are; store_is = end.store_is }
+lift : (from mid : Walk) (words rest : List Text) (a b : Option Text)
+    → ((to : Walk) → Goes mid rest to → Goes from words to) → EndsWell mid rest a b → EndsWell from words a b
+lift from mid words rest a b f end = record {
+  to = end.to;
+  goes = f end.to end.goes;
+  clean = end.clean;
+  connections_are = end.connections_are;
+  store_is = end.store_is;
+}
 
 -- an option that stands first, and what comes after it
 
 first_connections : (n : ℕ) (words rest : List Text) (a b : Option Text) → IsGiven (Connections n) words rest
-    → EndsWell (between [] (Some (codes "connections", decimal n ∷ []))) rest a b → EndsWell (between (one_row (codes "connections") (decimal n)) None) rest a b
-    → EndsWell (between [] None) words a b
-first_connections n words rest a b (some, most, inl e) two one = subst (λ ws. EndsWell (between [] None) ws a b) (sym e)
-    (lift (between [] None) (between [] (Some (codes "connections", decimal n ∷ []))) (codes "--connections" ∷ decimal n ∷ rest) rest a b (λ to goes. two_connections [] (decimal n) rest to (plain_decimal n some most) goes) two)
-first_connections n words rest a b (some, most, inr e) two one = subst (λ ws. EndsWell (between [] None) ws a b) (sym e)
-    (lift (between [] None) (between (one_row (codes "connections") (decimal n)) None) ((codes "--connections=" ++ decimal n) ∷ rest) rest a b (λ to goes. one_connections (decimal n) rest to goes) one)
+    → EndsWell (pending count (decimal n)) rest a b → EndsWell (used count (decimal n)) rest a b
+    → EndsWell start words a b
+first_connections n words rest a b (some, most, inl e) two one = subst (λ ws. EndsWell start ws a b) (sym e)
+    (lift start (pending count (decimal n)) (codes "--connections" ∷ decimal n ∷ rest) rest a b
+    (λ to goes. two_connections [] (decimal n) rest to (plain_decimal n some most) goes) two)
+first_connections n words rest a b (some, most, inr e) two one = subst (λ ws. EndsWell start ws a b) (sym e)
+    (lift start (used count (decimal n)) ((codes "--connections=" ++ decimal n) ∷ rest) rest a b
+    (λ to goes. one_connections (decimal n) rest to goes) one)
 
 first_store : (p : Text) (words rest : List Text) (a b : Option Text) → IsGiven (Store p) words rest
-    → EndsWell (between [] (Some (codes "store", p ∷ []))) rest a b → EndsWell (between (one_row (codes "store") p) None) rest a b
-    → EndsWell (between [] None) words a b
-first_store p words rest a b (is, inl e) two one = subst (λ ws. EndsWell (between [] None) ws a b) (sym e)
-    (lift (between [] None) (between [] (Some (codes "store", p ∷ []))) (codes "--store" ∷ p ∷ rest) rest a b (λ to goes. two_store [] p rest to (plain_path p is) goes) two)
-first_store p words rest a b (is, inr e) two one = subst (λ ws. EndsWell (between [] None) ws a b) (sym e)
-    (lift (between [] None) (between (one_row (codes "store") p) None) ((codes "--store=" ++ p) ∷ rest) rest a b (λ to goes. one_store p rest to goes) one)
+    → EndsWell (pending file p) rest a b → EndsWell (used file p) rest a b
+    → EndsWell start words a b
+first_store p words rest a b (is, inl e) two one = subst (λ ws. EndsWell start ws a b) (sym e)
+    (lift start (pending file p) (codes "--store" ∷ p ∷ rest) rest a b
+    (λ to goes. two_store [] p rest to (plain_path p is) goes) two)
+first_store p words rest a b (is, inr e) two one = subst (λ ws. EndsWell start ws a b) (sym e)
+    (lift start (used file p) ((codes "--store=" ++ p) ∷ rest) rest a b (λ to goes. one_store p rest to goes) one)
 
 -- an option that stands second and last
 
-store_after_two : (v p : Text) (words rest : List Text) → rest ≡ [] → IsGiven (Store p) words rest → EndsWell (between [] (Some (codes "connections", v ∷ []))) words (Some v) (Some p)
-store_after_two v p words rest last (is, inl e) = subst (λ ws. EndsWell (between [] (Some (codes "connections", v ∷ []))) ws (Some v) (Some p)) (sym (e ∙ ap (λ r. codes "--store" ∷ p ∷ r) last))
-    (lift (between [] (Some (codes "connections", v ∷ []))) (between (one_row (codes "connections") v) (Some (codes "store", p ∷ []))) (codes "--store" ∷ p ∷ []) [] (Some v) (Some p)
+store_after_two : (v p : Text) (words rest : List Text) → rest ≡ [] → IsGiven (Store p) words rest
+    → EndsWell (pending count v) words (Some v) (Some p)
+store_after_two v p words rest last (is, inl e) =
+    subst (λ ws. EndsWell (pending count v) ws (Some v) (Some p)) (sym (e ∙ ap (λ r. codes "--store" ∷ p ∷ r) last))
+    (lift (pending count v) (used_pending count v file p) (codes "--store" ∷ p ∷ []) [] (Some v) (Some p)
     (λ to goes. two_store_after_two v p [] to (plain_path p is) goes) (end_row_connections_store v p))
-store_after_two v p words rest last (is, inr e) = subst (λ ws. EndsWell (between [] (Some (codes "connections", v ∷ []))) ws (Some v) (Some p)) (sym (e ∙ ap (λ r. (codes "--store=" ++ p) ∷ r) last))
-    (lift (between [] (Some (codes "connections", v ∷ []))) (between (two_rows (codes "connections") v (codes "store") p) None) ((codes "--store=" ++ p) ∷ []) [] (Some v) (Some p)
+store_after_two v p words rest last (is, inr e) =
+    subst (λ ws. EndsWell (pending count v) ws (Some v) (Some p)) (sym (e ∙ ap (λ r. (codes "--store=" ++ p) ∷ r) last))
+    (lift (pending count v) (used_both count v file p) ((codes "--store=" ++ p) ∷ []) [] (Some v) (Some p)
     (λ to goes. one_store_after_two v p [] to goes) (end_rows_connections_store v p))
 
-store_after_one : (v p : Text) (words rest : List Text) → rest ≡ [] → IsGiven (Store p) words rest → EndsWell (between (one_row (codes "connections") v) None) words (Some v) (Some p)
-store_after_one v p words rest last (is, inl e) = subst (λ ws. EndsWell (between (one_row (codes "connections") v) None) ws (Some v) (Some p)) (sym (e ∙ ap (λ r. codes "--store" ∷ p ∷ r) last))
-    (lift (between (one_row (codes "connections") v) None) (between (one_row (codes "connections") v) (Some (codes "store", p ∷ []))) (codes "--store" ∷ p ∷ []) [] (Some v) (Some p)
-    (λ to goes. two_store (one_row (codes "connections") v) p [] to (plain_path p is) goes) (end_row_connections_store v p))
-store_after_one v p words rest last (is, inr e) = subst (λ ws. EndsWell (between (one_row (codes "connections") v) None) ws (Some v) (Some p)) (sym (e ∙ ap (λ r. (codes "--store=" ++ p) ∷ r) last))
-    (lift (between (one_row (codes "connections") v) None) (between (two_rows (codes "connections") v (codes "store") p) None) ((codes "--store=" ++ p) ∷ []) [] (Some v) (Some p)
+store_after_one : (v p : Text) (words rest : List Text) → rest ≡ [] → IsGiven (Store p) words rest
+    → EndsWell (used count v) words (Some v) (Some p)
+store_after_one v p words rest last (is, inl e) =
+    subst (λ ws. EndsWell (used count v) ws (Some v) (Some p)) (sym (e ∙ ap (λ r. codes "--store" ∷ p ∷ r) last))
+    (lift (used count v) (used_pending count v file p) (codes "--store" ∷ p ∷ []) [] (Some v) (Some p)
+    (λ to goes. two_store (one_row count v) p [] to (plain_path p is) goes) (end_row_connections_store v p))
+store_after_one v p words rest last (is, inr e) =
+    subst (λ ws. EndsWell (used count v) ws (Some v) (Some p)) (sym (e ∙ ap (λ r. (codes "--store=" ++ p) ∷ r) last))
+    (lift (used count v) (used_both count v file p) ((codes "--store=" ++ p) ∷ []) [] (Some v) (Some p)
     (λ to goes. one_store_after_one v p [] to goes) (end_rows_connections_store v p))
 
-connections_after_two : (v : Text) (n : ℕ) (words rest : List Text) → rest ≡ [] → IsGiven (Connections n) words rest → EndsWell (between [] (Some (codes "store", v ∷ []))) words (Some (decimal n)) (Some v)
-connections_after_two v n words rest last (some, most, inl e) = subst (λ ws. EndsWell (between [] (Some (codes "store", v ∷ []))) ws (Some (decimal n)) (Some v)) (sym (e ∙ ap (λ r. codes "--connections" ∷ decimal n ∷ r) last))
-    (lift (between [] (Some (codes "store", v ∷ []))) (between (one_row (codes "store") v) (Some (codes "connections", decimal n ∷ []))) (codes "--connections" ∷ decimal n ∷ []) [] (Some (decimal n)) (Some v)
-    (λ to goes. two_connections_after_two v (decimal n) [] to (plain_decimal n some most) goes) (end_row_store_connections v (decimal n)))
-connections_after_two v n words rest last (some, most, inr e) = subst (λ ws. EndsWell (between [] (Some (codes "store", v ∷ []))) ws (Some (decimal n)) (Some v)) (sym (e ∙ ap (λ r. (codes "--connections=" ++ decimal n) ∷ r) last))
-    (lift (between [] (Some (codes "store", v ∷ []))) (between (two_rows (codes "store") v (codes "connections") (decimal n)) None) ((codes "--connections=" ++ decimal n) ∷ []) [] (Some (decimal n)) (Some v)
+connections_after_two : (v : Text) (n : ℕ) (words rest : List Text) → rest ≡ [] → IsGiven (Connections n) words rest
+    → EndsWell (pending file v) words (Some (decimal n)) (Some v)
+connections_after_two v n words rest last (some, most, inl e) =
+    subst (λ ws. EndsWell (pending file v) ws (Some (decimal n)) (Some v))
+    (sym (e ∙ ap (λ r. codes "--connections" ∷ decimal n ∷ r) last))
+    (lift (pending file v) (used_pending file v count (decimal n)) (codes "--connections" ∷ decimal n ∷ []) []
+    (Some (decimal n)) (Some v)
+    (λ to goes. two_connections_after_two v (decimal n) [] to (plain_decimal n some most) goes)
+    (end_row_store_connections v (decimal n)))
+connections_after_two v n words rest last (some, most, inr e) =
+    subst (λ ws. EndsWell (pending file v) ws (Some (decimal n)) (Some v))
+    (sym (e ∙ ap (λ r. (codes "--connections=" ++ decimal n) ∷ r) last))
+    (lift (pending file v) (used_both file v count (decimal n)) ((codes "--connections=" ++ decimal n) ∷ []) []
+    (Some (decimal n)) (Some v)
     (λ to goes. one_connections_after_two v (decimal n) [] to goes) (end_rows_store_connections v (decimal n)))
 
-connections_after_one : (v : Text) (n : ℕ) (words rest : List Text) → rest ≡ [] → IsGiven (Connections n) words rest → EndsWell (between (one_row (codes "store") v) None) words (Some (decimal n)) (Some v)
-connections_after_one v n words rest last (some, most, inl e) = subst (λ ws. EndsWell (between (one_row (codes "store") v) None) ws (Some (decimal n)) (Some v)) (sym (e ∙ ap (λ r. codes "--connections" ∷ decimal n ∷ r) last))
-    (lift (between (one_row (codes "store") v) None) (between (one_row (codes "store") v) (Some (codes "connections", decimal n ∷ []))) (codes "--connections" ∷ decimal n ∷ []) [] (Some (decimal n)) (Some v)
-    (λ to goes. two_connections (one_row (codes "store") v) (decimal n) [] to (plain_decimal n some most) goes) (end_row_store_connections v (decimal n)))
-connections_after_one v n words rest last (some, most, inr e) = subst (λ ws. EndsWell (between (one_row (codes "store") v) None) ws (Some (decimal n)) (Some v)) (sym (e ∙ ap (λ r. (codes "--connections=" ++ decimal n) ∷ r) last))
-    (lift (between (one_row (codes "store") v) None) (between (two_rows (codes "store") v (codes "connections") (decimal n)) None) ((codes "--connections=" ++ decimal n) ∷ []) [] (Some (decimal n)) (Some v)
+connections_after_one : (v : Text) (n : ℕ) (words rest : List Text) → rest ≡ [] → IsGiven (Connections n) words rest
+    → EndsWell (used file v) words (Some (decimal n)) (Some v)
+connections_after_one v n words rest last (some, most, inl e) =
+    subst (λ ws. EndsWell (used file v) ws (Some (decimal n)) (Some v))
+    (sym (e ∙ ap (λ r. codes "--connections" ∷ decimal n ∷ r) last))
+    (lift (used file v) (used_pending file v count (decimal n)) (codes "--connections" ∷ decimal n ∷ []) []
+    (Some (decimal n)) (Some v)
+    (λ to goes. two_connections (one_row file v) (decimal n) [] to (plain_decimal n some most) goes)
+    (end_row_store_connections v (decimal n)))
+connections_after_one v n words rest last (some, most, inr e) =
+    subst (λ ws. EndsWell (used file v) ws (Some (decimal n)) (Some v))
+    (sym (e ∙ ap (λ r. (codes "--connections=" ++ decimal n) ∷ r) last))
+    (lift (used file v) (used_both file v count (decimal n)) ((codes "--connections=" ++ decimal n) ∷ []) []
+    (Some (decimal n)) (Some v)
     (λ to goes. one_connections_after_one v (decimal n) [] to goes) (end_rows_store_connections v (decimal n)))
 
 -- all options that stand at most once
@@ -279,36 +449,42 @@ count_text (Connections n ∷ given) = Some (decimal n)
 count_text (Store p ∷ given) = count_text given
 count_text (Link ∷ given) = count_text given
 
-given_well : (given : List Given) (words : List Text) → AreGiven given words → how_many is_connections given ≤ 1 → how_many is_store given ≤ 1 → how_many is_link given ≡ 0
-    → EndsWell (between [] None) words (count_text given) (store_in given)
-given_well [] words e c s l = subst (λ ws. EndsWell (between [] None) ws None None) (sym e) end_empty
+given_well : (given : List Given) (words : List Text) → AreGiven given words → how_many is_connections given ≤ 1
+    → how_many is_store given ≤ 1 → how_many is_link given ≡ 0
+    → EndsWell start words (count_text given) (store_in given)
+given_well [] words e c s l = subst (λ ws. EndsWell start ws None None) (sym e) end_empty
 given_well (Link ∷ given) words is c s l = absurd (omega (arith, l))
 given_well (Connections n ∷ []) words (rest, b, e) c s l =
     first_connections n words rest (Some (decimal n)) None b
-    (subst (λ ws. EndsWell (between [] (Some (codes "connections", decimal n ∷ []))) ws (Some (decimal n)) None) (sym e) (end_connections (decimal n)))
-    (subst (λ ws. EndsWell (between (one_row (codes "connections") (decimal n)) None) ws (Some (decimal n)) None) (sym e) (end_row_connections (decimal n)))
+    (subst (λ ws. EndsWell (pending count (decimal n)) ws (Some (decimal n)) None) (sym e)
+    (end_connections (decimal n)))
+    (subst (λ ws. EndsWell (used count (decimal n)) ws (Some (decimal n)) None) (sym e)
+    (end_row_connections (decimal n)))
 given_well (Connections n ∷ Connections m ∷ given) words is c s l = absurd (omega (arith, c))
 given_well (Connections n ∷ Link ∷ given) words is c s l = absurd (omega (arith, l))
 given_well (Connections n ∷ Store p ∷ []) words (rest, b, (more, d, e)) c s l =
-    first_connections n words rest (Some (decimal n)) (Some p) b (store_after_two (decimal n) p rest more e d) (store_after_one (decimal n) p rest more e d)
+    first_connections n words rest (Some (decimal n)) (Some p) b (store_after_two (decimal n) p rest more e d)
+    (store_after_one (decimal n) p rest more e d)
 given_well (Connections n ∷ Store p ∷ Connections m ∷ given) words is c s l = absurd (omega (arith, c))
 given_well (Connections n ∷ Store p ∷ Store q ∷ given) words is c s l = absurd (omega (arith, s))
 given_well (Connections n ∷ Store p ∷ Link ∷ given) words is c s l = absurd (omega (arith, l))
 given_well (Store p ∷ []) words (rest, b, e) c s l =
     first_store p words rest None (Some p) b
-    (subst (λ ws. EndsWell (between [] (Some (codes "store", p ∷ []))) ws None (Some p)) (sym e) (end_store p))
-    (subst (λ ws. EndsWell (between (one_row (codes "store") p) None) ws None (Some p)) (sym e) (end_row_store p))
+    (subst (λ ws. EndsWell (pending file p) ws None (Some p)) (sym e) (end_store p))
+    (subst (λ ws. EndsWell (used file p) ws None (Some p)) (sym e) (end_row_store p))
 given_well (Store p ∷ Store q ∷ given) words is c s l = absurd (omega (arith, s))
 given_well (Store p ∷ Link ∷ given) words is c s l = absurd (omega (arith, l))
 given_well (Store p ∷ Connections n ∷ []) words (rest, b, (more, d, e)) c s l =
-    first_store p words rest (Some (decimal n)) (Some p) b (connections_after_two p n rest more e d) (connections_after_one p n rest more e d)
+    first_store p words rest (Some (decimal n)) (Some p) b (connections_after_two p n rest more e d)
+    (connections_after_one p n rest more e d)
 given_well (Store p ∷ Connections n ∷ Connections m ∷ given) words is c s l = absurd (omega (arith, c))
 given_well (Store p ∷ Connections n ∷ Store q ∷ given) words is c s l = absurd (omega (arith, s))
 given_well (Store p ∷ Connections n ∷ Link ∷ given) words is c s l = absurd (omega (arith, l))
 
 -- the number of the text
 
-counts : (given : List Given) (words : List Text) → AreGiven given words → IsConnections (count_text given) (connections_in given)
+counts : (given : List Given) (words : List Text) → AreGiven given words
+    → IsConnections (count_text given) (connections_in given)
 counts [] words e = refl
 counts (Connections n ∷ given) words (rest, b, more) = (b.0, b.1, refl)
 counts (Store p ∷ given) words (rest, b, more) = counts given rest more
@@ -324,12 +500,19 @@ no_link : (n : ℕ) → nat_lt 0 n ≡ false → n ≡ 0
 no_link n e = grind (arith, nat_tests)
 
 -- words that are options have no fault, and their values are these options
-pub clap_reads : (words : List Bytes) (options : Options) → options.link ≡ false → AreOptions options words → (fault_of serve_app words ≡ []) × AreValues (matches_of serve_app words) options
+pub clap_reads : (words : List Bytes) (options : Options) → options.link ≡ false → AreOptions options words
+    → (fault_of serve_app words ≡ []) × AreValues (matches_of serve_app words) options
 clap_reads words options link (given, are, same, c, s, l) =
     let none : how_many is_link given ≡ 0 = no_link (how_many is_link given) (ap (λ o. o.link) (sym same) ∙ link) in
     let read = reads_of words (count_text given) (store_in given) (given_well given words are c s none) in
-    let number : IsConnections (count_text given) options.connections = subst (λ n. IsConnections (count_text given) n) (ap (λ o. o.connections) (sym same)) (counts given words are) in
-    let path : IsStore (store_in given) options.store = subst (λ p. IsStore (store_in given) p) (ap (λ o. o.store) (sym same)) (stores given words are) in (
+    let number : IsConnections (count_text given) options.connections =
+    subst (λ n. IsConnections (count_text given) n) (ap (λ o. o.connections) (sym same)) (counts given words are) in
+    let path : IsStore (store_in given) options.store =
+    subst (λ p. IsStore (store_in given) p) (ap (λ o. o.store) (sym same)) (stores given words are) in (
       read.clean,
-      (subst (λ t. IsConnections t options.connections) (sym read.connections_are) number, subst (λ t. IsStore t options.store) (sym read.store_is) path),
+      (
+        subst (λ t. IsConnections t options.connections) (sym read.connections_are) number,
+        subst
+            (λ t. IsStore t options.store) (sym read.store_is) path,
+      ),
     )

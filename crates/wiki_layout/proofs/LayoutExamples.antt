@@ -27,14 +27,16 @@ the_empty_text_is_the_default_layout : layout_of [] ≡ Ok default_layout
 unfolding toml_on_literals is_utf8 chars encode
 the_empty_text_is_the_default_layout = refl
 
-a_whole_layout_says_each_key : layout_of (line (codes "[home]") ++ line (codes "weights = [3, 1]") ++ line (codes "slots = 256") ++ line []
+a_whole_layout_says_each_key : layout_of
+    (line (codes "[home]") ++ line (codes "weights = [3, 1]") ++ line (codes "slots = 256") ++ line []
     ++ line (codes "[west]") ++ line (codes "weights = [1]") ++ line (codes "slots = 4096") ++ line []
     ++ line (codes "[farm]") ++ line (codes "epoch = 7") ++ line (codes "workers = 2") ++ line (codes "pace = 10"))
     ≡ Ok (record default_layout { home_weights = 3 ∷ 1 ∷ []; home_slots = 256; epoch = 7; workers = 2; pace = 10 })
 unfolding toml_on_literals is_utf8 chars encode
 a_whole_layout_says_each_key = refl
 
-delays_may_be_zero : layout_of (line (codes "[farm]") ++ line (codes "commit_delay = 0") ++ line (codes "read_lag = 0") ++ line (codes "skew = 60000"))
+delays_may_be_zero : layout_of
+    (line (codes "[farm]") ++ line (codes "commit_delay = 0") ++ line (codes "read_lag = 0") ++ line (codes "skew = 60000"))
     ≡ Ok (record default_layout { bounds = record { commit_delay = 0; read_lag = 0; skew = 60_000 } })
 unfolding toml_on_literals is_utf8 chars encode
 delays_may_be_zero = refl
@@ -52,7 +54,8 @@ another_table_is_not_known : layout_of (line (codes "[edge]")) ≡ Err 2
 unfolding toml_on_literals is_utf8 chars encode
 another_table_is_not_known = refl
 
-names_come_before_kinds_and_ranges : layout_of (line (codes "home = 1") ++ line (codes "[farm]") ++ line (codes "paces = 0"))
+names_come_before_kinds_and_ranges : layout_of
+    (line (codes "home = 1") ++ line (codes "[farm]") ++ line (codes "paces = 0"))
     ≡ Err 2
 unfolding toml_on_literals is_utf8 chars encode
 names_come_before_kinds_and_ranges = refl

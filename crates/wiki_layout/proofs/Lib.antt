@@ -7,6 +7,5 @@ pub mod OptionTurns
 pub mod OptionWords
 pub mod ParsedNumbers
 pub mod Prefixes
-pub mod ServeApp
 pub mod Settings
 pub mod Weights

@@ -1,4 +1,5 @@
--- What the reader of options takes is an option, and each option is taken: a number's decimal digits are the only numeral
+-- What the reader of options takes is an option, and each option is taken: a number's decimal digits are the only
+-- numeral
 -- of it, and the names of options are no beginnings of each other.
 use Rattle.std.proofs.Common.{◌≡◌, ◌≢◌, inl, inr, ℕ, suc, ◌<◌, ◌≤◌, ◌^◌, Bool, true, false, ◌||◌, if◌then◌else◌, List, [], ◌∷◌, ◌++◌, Option, Some, None, option_map, length, drop, refl, sym, ap, ◌∙◌, arith, codes, decimal}
 use Rattle.std.specs.Prelude.{⊤, bytes_eq, nat_lt, slice_index}
@@ -28,7 +29,8 @@ CountIs word (Some n) = IsCount word n
 first_alone : (len first : ℕ) → 0 < len → (nat_lt len 2 || nat_lt 48 first) ≡ true → first ≡ 48 → len ≡ 1
 first_alone len first a b c = grind (arith, nat_tests)
 
-spelled_by : (word : Bytes) → is_numeral word ≡ true → is_in_limit (digits_value 10 word) ≡ true → IsCount word (digits_value 10 word)
+spelled_by : (word : Bytes) → is_numeral word ≡ true → is_in_limit (digits_value 10 word) ≡ true
+    → IsCount word (digits_value 10 word)
 spelled_by word a b =
     let filled : 0 < length word = grind (arith, nat_tests) in
     let digits : list_all is_digit word ≡ true = grind (arith, nat_tests) in
@@ -38,7 +40,9 @@ spelled_by word a b =
     record {
       some = some;
       most = most;
-      spelled = sym (decimal-digits_value own word digits filled (first_alone (length word) (slice_index word 0) filled first) (omega (arith, most)));
+      spelled =
+          sym (decimal-digits_value own word digits filled
+          (first_alone (length word) (slice_index word 0) filled first) (omega (arith, most)));
     }
 
 pub count_is : (word : Bytes) → CountIs word (count_in word)
@@ -57,7 +61,8 @@ decimal_digits n h = own.from (decimal n) (decimal_is_IsNumeral n h).0.1
 numeral_decimal : (n : ℕ) → 0 < n → n < 2 ^ 64 → is_numeral (decimal n) ≡ true
 numeral_decimal n some h =
     let filled : nat_lt 0 (length (decimal n)) ≡ true = let d = decimal_nonempty n h in grind (arith, nat_tests, d) in
-    let first : nat_lt 48 (slice_index (decimal n) 0) ≡ true = let d = first_decimal n some h in grind (arith, nat_tests, d) in
+    let first : nat_lt 48 (slice_index (decimal n) 0) ≡ true = let d = first_decimal n some h in
+    grind (arith, nat_tests, d) in
     rw (filled, decimal_digits n h, first) (by_or (nat_lt (length (decimal n)) 2))
   where
     by_or : (b : Bool) → (b || true) ≡ true
@@ -88,7 +93,8 @@ AfterIs prefix word (Some rest) = word ≡ prefix ++ rest
 after_is : (prefix word : Bytes) → AfterIs prefix word (after_prefix prefix word)
 after_is prefix word = by (begins prefix word) refl
   where
-    by : (b : Bool) → begins prefix word ≡ b → AfterIs prefix word (if b then Some (drop (length prefix) word) else None)
+    by : (b : Bool) → begins prefix word ≡ b
+        → AfterIs prefix word (if b then Some (drop (length prefix) word) else None)
     by true e = split prefix word e
     by false e = tt
 
@@ -101,7 +107,8 @@ BeginsWith words (Some x) = IsGiven x.0 words x.1
 abbrev with_rest : List Bytes → Option Given → Option (Given × List Bytes)
 with_rest rest one = option_map (λ given. (given, rest)) one
 
-count_begins : (value : Bytes) (words rest : List Bytes) → ((n : ℕ) → value ≡ decimal n → AreNamed (codes "--connections") (decimal n) words rest)
+count_begins : (value : Bytes) (words rest : List Bytes)
+    → ((n : ℕ) → value ≡ decimal n → AreNamed (codes "--connections") (decimal n) words rest)
     → (c : Option ℕ) → CountIs value c → BeginsWith words (with_rest rest (option_map Connections c))
 count_begins value words rest named None is = tt
 count_begins value words rest named (Some n) is = (is.some, is.most, named n is.spelled)
@@ -110,13 +117,18 @@ path_begins : (value : Bytes) (words rest : List Bytes) → AreNamed (codes "--s
     → BeginsWith words (with_rest rest (option_map Store (path_in value)))
 path_begins value words rest named = by (is_path value) refl
   where
-    by : (b : Bool) → is_path value ≡ b → BeginsWith words (with_rest rest (option_map Store (if b then Some value else None)))
+    by : (b : Bool) → is_path value ≡ b
+        → BeginsWith words (with_rest rest (option_map Store (if b then Some value else None)))
     by true e = (e, named)
     by false e = tt
 
-named_begins : (word value : Bytes) (rest : List Bytes) (name : Option Bool) → name_in word ≡ name → (is_count : Bool) → name ≡ Some is_count
+named_begins : (word value : Bytes) (rest : List Bytes) (name : Option Bool) → name_in word ≡ name → (is_count : Bool)
+    → name ≡ Some is_count
     → BeginsWith (word ∷ value ∷ rest) (with_rest rest (with_value is_count value))
-named_begins word value rest name e true same = count_begins value (word ∷ value ∷ rest) rest (λ n spelled. inl (ap (λ x. x ∷ value ∷ rest) is ∙ ap (λ v. codes "--connections" ∷ v ∷ rest) spelled)) (count_in value) (count_is value)
+named_begins word value rest name e true same =
+    count_begins value (word ∷ value ∷ rest) rest
+    (λ n spelled. inl (ap (λ x. x ∷ value ∷ rest) is ∙ ap (λ v. codes "--connections" ∷ v ∷ rest) spelled))
+    (count_in value) (count_is value)
   where
     is : word ≡ codes "--connections"
     is = by (bytes_eq word (codes "--connections")) refl (bytes_eq word (codes "--store")) refl (e ∙ same)
@@ -126,7 +138,8 @@ named_begins word value rest name e true same = count_begins value (word ∷ val
         by true ea b eb h = (bytes_eq-Decides word (codes "--connections")).0 ea
         by false ea true eb h = search
         by false ea false eb h = search
-named_begins word value rest name e false same = path_begins value (word ∷ value ∷ rest) rest (inl (ap (λ x. x ∷ value ∷ rest) is))
+named_begins word value rest name e false same =
+    path_begins value (word ∷ value ∷ rest) rest (inl (ap (λ x. x ∷ value ∷ rest) is))
   where
     is : word ≡ codes "--store"
     is = by (bytes_eq word (codes "--connections")) refl (bytes_eq word (codes "--store")) refl (e ∙ same)
@@ -140,25 +153,37 @@ named_begins word value rest name e false same = path_begins value (word ∷ val
 one_begins : (word : Bytes) (rest : List Bytes) → BeginsWith (word ∷ rest) (with_rest rest (in_one word))
 one_begins word rest = by_link (bytes_eq word (codes "--link")) refl
   where
-    by_store : (v : Option Bytes) → AfterIs (codes "--store=") word v → BeginsWith (word ∷ rest) (with_rest rest (store_of v))
+    by_store : (v : Option Bytes) → AfterIs (codes "--store=") word v
+        → BeginsWith (word ∷ rest) (with_rest rest (store_of v))
     by_store None is = tt
     by_store (Some value) is = path_begins value (word ∷ rest) rest (inr (ap (λ x. x ∷ rest) is))
 
-    by_count : (v : Option Bytes) → AfterIs (codes "--connections=") word v → BeginsWith (word ∷ rest) (with_rest rest (count_or_store v word))
+    by_count : (v : Option Bytes) → AfterIs (codes "--connections=") word v
+        → BeginsWith (word ∷ rest) (with_rest rest (count_or_store v word))
     by_count None is = by_store (after_prefix (codes "--store=") word) (after_is (codes "--store=") word)
-    by_count (Some value) is = count_begins value (word ∷ rest) rest (λ n spelled. inr (ap (λ x. x ∷ rest) (is ∙ ap (λ v. codes "--connections=" ++ v) spelled))) (count_in value) (count_is value)
+    by_count (Some value) is =
+        count_begins value (word ∷ rest) rest
+        (λ n spelled. inr (ap (λ x. x ∷ rest) (is ∙ ap (λ v. codes "--connections=" ++ v) spelled))) (count_in value)
+        (count_is value)
 
-    by_link : (b : Bool) → bytes_eq word (codes "--link") ≡ b → BeginsWith (word ∷ rest) (with_rest rest (if b then Some Link else count_or_store (after_prefix (codes "--connections=") word) word))
+    by_link : (b : Bool) → bytes_eq word (codes "--link") ≡ b
+        → BeginsWith (word ∷ rest)
+        (with_rest rest (if b then Some Link else count_or_store (after_prefix (codes "--connections=") word) word))
     by_link true e = ap (λ x. x ∷ rest) ((bytes_eq-Decides word (codes "--link")).0 e)
     by_link false e = by_count (after_prefix (codes "--connections=") word) (after_is (codes "--connections=") word)
 
 -- an option is begun
 
-pub begun_given : (given : Given) (words rest : List Bytes) → IsGiven given words rest → begun words ≡ Some (given, rest)
-begun_given (Connections n) words rest (some, most, inl e) = ap begun e ∙ ap (λ c. with_rest rest (option_map Connections c)) (count_decimal n some most)
-begun_given (Connections n) words rest (some, most, inr e) = ap begun e ∙ ap (λ c. with_rest rest (option_map Connections c)) (count_decimal n some most)
-begun_given (Store path) words rest (is, inl e) = ap begun e ∙ ap (λ b. with_rest rest (option_map Store (if b then Some path else None))) is
-begun_given (Store path) words rest (is, inr e) = ap begun e ∙ ap (λ b. with_rest rest (option_map Store (if b then Some path else None))) is
+pub begun_given : (given : Given) (words rest : List Bytes) → IsGiven given words rest
+    → begun words ≡ Some (given, rest)
+begun_given (Connections n) words rest (some, most, inl e) =
+    ap begun e ∙ ap (λ c. with_rest rest (option_map Connections c)) (count_decimal n some most)
+begun_given (Connections n) words rest (some, most, inr e) =
+    ap begun e ∙ ap (λ c. with_rest rest (option_map Connections c)) (count_decimal n some most)
+begun_given (Store path) words rest (is, inl e) =
+    ap begun e ∙ ap (λ b. with_rest rest (option_map Store (if b then Some path else None))) is
+begun_given (Store path) words rest (is, inr e) =
+    ap begun e ∙ ap (λ b. with_rest rest (option_map Store (if b then Some path else None))) is
 begun_given Link words rest e = ap begun e
 
 absurd_length : (words rest : List Bytes) (word : Bytes) → words ≡ word ∷ rest → length words ≡ 0 → ⊥
@@ -167,8 +192,10 @@ absurd_length words rest word e h =
     omega (arith, h, long)
 
 filled_by : (given : Given) (words rest : List Bytes) → IsGiven given words rest → length words ≢ 0
-filled_by (Connections n) words rest (some, most, inl e) h = absurd_length words (decimal n ∷ rest) (codes "--connections") e h
-filled_by (Connections n) words rest (some, most, inr e) h = absurd_length words rest (codes "--connections" ++ 61 ∷ decimal n) e h
+filled_by (Connections n) words rest (some, most, inl e) h =
+    absurd_length words (decimal n ∷ rest) (codes "--connections") e h
+filled_by (Connections n) words rest (some, most, inr e) h =
+    absurd_length words rest (codes "--connections" ++ 61 ∷ decimal n) e h
 filled_by (Store path) words rest (is, inl e) h = absurd_length words (path ∷ rest) (codes "--store") e h
 filled_by (Store path) words rest (is, inr e) h = absurd_length words rest (codes "--store" ++ 61 ∷ path) e h
 filled_by Link words rest e h = absurd_length words rest (codes "--link") e h
@@ -179,7 +206,8 @@ abbrev pub AllGiven : (words : List Bytes) → Option (List Given) → Type 0
 AllGiven words None = ⊤
 AllGiven words (Some given) = AreGiven given words
 
-join_given : (words : List Bytes) (one : Option Given) (rest : List Bytes) → BeginsWith words (with_rest rest one) → (more : Option (List Given)) → AllGiven rest more → AllGiven words (joined one more)
+join_given : (words : List Bytes) (one : Option Given) (rest : List Bytes) → BeginsWith words (with_rest rest one)
+    → (more : Option (List Given)) → AllGiven rest more → AllGiven words (joined one more)
 join_given words None rest b more is = tt
 join_given words (Some given) rest b None is = tt
 join_given words (Some given) rest b (Some more) is = (rest, b, is)
@@ -191,14 +219,20 @@ given_sound (word ∷ []) = by (name_in word)
     by : (name : Option Bool) → AllGiven (word ∷ []) (alone name (in_one word))
     by None = join_given (word ∷ []) (in_one word) [] (one_begins word []) (Some []) refl
     by (Some is_count) = tt
-given_sound (word ∷ value ∷ rest) = by (name_in word) refl (given_in (value ∷ rest)) (given_sound (value ∷ rest)) (given_in rest) (given_sound rest)
+given_sound (word ∷ value ∷ rest) =
+    by (name_in word) refl (given_in (value ∷ rest)) (given_sound (value ∷ rest)) (given_in rest) (given_sound rest)
   where
-    by : (name : Option Bool) → name_in word ≡ name → (one : Option (List Given)) → AllGiven (value ∷ rest) one → (two : Option (List Given)) → AllGiven rest two
+    by : (name : Option Bool) → name_in word ≡ name → (one : Option (List Given)) → AllGiven (value ∷ rest) one
+        → (two : Option (List Given)) → AllGiven rest two
         → AllGiven (word ∷ value ∷ rest) (chosen name (in_one word) value one two)
-    by None e one is_one two is_two = join_given (word ∷ value ∷ rest) (in_one word) (value ∷ rest) (one_begins word (value ∷ rest)) one is_one
-    by (Some is_count) e one is_one two is_two = join_given (word ∷ value ∷ rest) (with_value is_count value) rest (named_begins word value rest (name_in word) refl is_count e) two is_two
+    by None e one is_one two is_two =
+        join_given (word ∷ value ∷ rest) (in_one word) (value ∷ rest) (one_begins word (value ∷ rest)) one is_one
+    by (Some is_count) e one is_one two is_two =
+        join_given (word ∷ value ∷ rest) (with_value is_count value) rest
+        (named_begins word value rest (name_in word) refl is_count e) two is_two
 
 pub given_complete : (given : List Given) (words : List Bytes) → AreGiven given words → given_in words ≡ Some given
 given_complete [] words e = ap given_in e
 given_complete (given ∷ more) words (rest, b, is) =
-    turn words (filled_by given words rest b) ∙ (ap go_on (begun_given given words rest b) ∙ ap (option_map (λ gs. given ∷ gs)) (given_complete more rest is))
+    turn words (filled_by given words rest b)
+    ∙ (ap go_on (begun_given given words rest b) ∙ ap (option_map (λ gs. given ∷ gs)) (given_complete more rest is))

@@ -14,14 +14,17 @@ numeral_digits : (bs : List ℕ) → is_numeral bs ≡ true → (0 < length bs) 
 numeral_digits bs t = (grind (arith, nat_tests), grind (arith, nat_tests))
 
 -- what `parse` refuses is no number of connections
-pub count_refused : {E : Type 0} (bs : List ℕ) (e : E) → ParsesUnsigned 64 10 bs (Err e) → is_numeral bs ≡ true → count_in bs ≡ None
+pub count_refused : {E : Type 0} (bs : List ℕ) (e : E) → ParsesUnsigned 64 10 bs (Err e) → is_numeral bs ≡ true
+    → count_in bs ≡ None
 unfolding count_in
 count_refused bs e h t =
     let d = numeral_digits bs t in
     let refuses = parse_digits own 64 bs (Err e) h d.1 in
-    let big : is_in_limit (digits_value 10 bs) ≡ false = below_limit refuses d.0 (is_in_limit (digits_value 10 bs)) refl in
+    let big : is_in_limit (digits_value 10 bs) ≡ false =
+    below_limit refuses d.0 (is_in_limit (digits_value 10 bs)) refl in
     rw (t, big) refl
   where
-    below_limit : ¬ ((0 < length bs) × (digits_value 10 bs < 2 ^ 64)) → 0 < length bs → (b : Bool) → is_in_limit (digits_value 10 bs) ≡ b → b ≡ false
+    below_limit : ¬ ((0 < length bs) × (digits_value 10 bs < 2 ^ 64)) → 0 < length bs → (b : Bool)
+        → is_in_limit (digits_value 10 bs) ≡ b → b ≡ false
     below_limit refuses filled false q = refl
     below_limit refuses filled true q = absurd (refuses (filled, grind (arith, nat_tests)))

@@ -11,11 +11,13 @@ use Rattle.wiki_layout.specs.Layout.{layout_of, setting_of}
 use Rattle.wiki_layout.specs.ReadLayout.{Reads, IsPlan}
 use Rattle.wiki_layout.specs.declared.layout.LayoutFault.{LayoutFault}
 
-own_setting : (together : Region → Title → Title → Bool) (opened : ℕ) (plan : FarmPlan) → IsPlanOf (setting_of together opened (plan_of plan)) plan
+own_setting : (together : Region → Title → Title → Bool) (opened : ℕ) (plan : FarmPlan)
+    → IsPlanOf (setting_of together opened (plan_of plan)) plan
 own_setting together opened plan = record { home = refl; west = refl; epoch = refl; workers = refl; bounds = refl }
 
 -- what is read of the text is the plan of the text's settings
-pub reads_settings : (text : Bytes) (read : Result FarmPlan LayoutFault) → Reads read (layout_of text) → IfOk read (λ plan. IsPlan text plan)
+pub reads_settings : (text : Bytes) (read : Result FarmPlan LayoutFault) → Reads read (layout_of text)
+    → IfOk read (λ plan. IsPlan text plan)
 reads_settings text (Err fault) reads = tt
 reads_settings text (Ok plan) reads = λ together opened said is.
     let same : plan_of plan ≡ said = cc in

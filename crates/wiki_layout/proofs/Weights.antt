@@ -23,13 +23,15 @@ numbers_counted (item value more) = ap suc (numbers_counted more)
 allowed_counted : (items : Option Items) → are_allowed_weights items ≡ true → IsCount (length (numbers_in items))
 allowed_counted None e = absurd (true≢false (sym e))
 allowed_counted (Some items) e =
-    let count = both (nat_lt 0 (count_of items) && nat_le (count_of items) replicas_max) (all_items is_weight items) e in
+    let count =
+    both (nat_lt 0 (count_of items) && nat_le (count_of items) replicas_max) (all_items is_weight items) e in
     let parts = both (nat_lt 0 (count_of items)) (nat_le (count_of items) replicas_max) count.0 in
     let some = parts.0 in
     let few = parts.1 in
     subst IsCount (numbers_counted items) (grind (arith, nat_tests, some), grind (arith, nat_tests, few))
 
 -- what the replicas of a region are made of
-pub weights_counted : (value : Option Data) → IfSome value (λ v. are_weights v ≡ true) → IsCount (length (weights_or_one value))
+pub weights_counted : (value : Option Data) → IfSome value (λ v. are_weights v ≡ true)
+    → IsCount (length (weights_or_one value))
 weights_counted None e = (omega arith, omega arith)
 weights_counted (Some value) e = allowed_counted (as_array value) e

@@ -13,7 +13,8 @@ option_rule name = record (new_rule name) { long = Some name; action = Some Set 
 -- without a name of the program, help and version
 abbrev pub plain_app : App
 plain_app =
-    on_top (λ s. record s { no_binary_name = true; disable_help_flag = true; disable_version_flag = true }) (new_app (codes "serve"))
+    on_top (λ s. record s { no_binary_name = true; disable_help_flag = true; disable_version_flag = true })
+    (new_app (codes "serve"))
 
 -- two options
 abbrev pub serve_app : App

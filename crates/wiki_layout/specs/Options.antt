@@ -102,7 +102,8 @@ abbrev pub joined : Option Given → Option (List Given) → Option (List Given)
 joined None more = None
 joined (Some given) more = option_map (λ given_more. given ∷ given_more) more
 
-abbrev pub chosen : Option Bool → (one : Option Given) → (value : Bytes) → (after_one after_two : Option (List Given)) → Option (List Given)
+abbrev pub chosen : Option Bool → (one : Option Given) → (value : Bytes) → (after_one after_two : Option (List Given))
+    → Option (List Given)
 chosen None one value after_one after_two = joined one after_one
 chosen (Some is_count) one value after_one after_two = joined (with_value is_count value) after_two
 

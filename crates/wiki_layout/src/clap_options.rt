@@ -1,4 +1,4 @@
-// The options of a farm that is served without a link: `clap` takes the words, and the reader by hand says what they are.
+// The options of a farm without a link: `clap` takes the words, and the reader by hand says what they are.
 ghost use Rattle.std.specs.Prelude.{◌≡◌, ◌≢◌, [], IfErr, IfOk, option_map, false, true, if◌then◌else◌, Some, None};
 ghost use Rattle.clap.specs.Values.{kind_of};
 ghost use Rattle.clap.specs.Simple.{app_of};

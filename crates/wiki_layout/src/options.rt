@@ -49,8 +49,8 @@ enum Given<'a> {
     Link,
 }
 
-/// The options that the words are; none if they are no options. Each option stands at most once, in any order, its value
-/// in the next word or after `=`. It takes no memory.
+/// The options that the words are; none if they are no options. Each option stands at most once, in any order, with its
+/// value in the next word or after `=`. It takes no memory.
 pub fn read_options(words: &[String]) -> Option<Options<'_>>
     ensures { OptionsAre (texts_of words.now) (option_map options_of result) }
 {
@@ -142,7 +142,8 @@ fn begun(words: &[String]) -> Option<(Given<'_>, &[String])>
 
 // The option whose name stood before these words, with the first of them as its value.
 fn begun_named(is_count: bool, words: &[String]) -> Option<(Given<'_>, &[String])>
-    ensures value { option_map (λ x. (given_of x.0, texts_of x.1.now)) result ≡ begun_named is_count (texts_of words.now) }
+    ensures value { option_map (λ x. (given_of x.0, texts_of x.1.now)) result
+        ≡ begun_named is_count (texts_of words.now) }
     ensures shorter { IfSome result (λ x. length x.1.now < length words.now) }
 {
     let Some((value, rest)) = words.split_first() else {

@@ -7,11 +7,15 @@ use Rattle.wiki_layout.proofs.layout_values.number_at.Goals as goal
 pub returns-clause-least : goal.returns-clause-least
 returns-clause-least c =
     let r = c.args.range in
-    let within = number_within (table_view c.args.document.now) c.args.name.now c.args.key.now r.least r.greatest r.default c.requires.kept c.requires.kind c.requires.least c.requires.greatest in
+    let table = table_view c.args.document.now in
+    let within = number_within table c.args.name.now c.args.key.now r.least r.greatest r.default
+    c.requires.kept c.requires.kind c.requires.least c.requires.greatest in
     subst (λ n. r.least ≤ n) (sym (c.number_or.ensures ∙ ap (number_or r.default) c.value_at.ensures)) within.0
 
 pub returns-clause-greatest : goal.returns-clause-greatest
 returns-clause-greatest c =
     let r = c.args.range in
-    let within = number_within (table_view c.args.document.now) c.args.name.now c.args.key.now r.least r.greatest r.default c.requires.kept c.requires.kind c.requires.least c.requires.greatest in
+    let table = table_view c.args.document.now in
+    let within = number_within table c.args.name.now c.args.key.now r.least r.greatest r.default
+    c.requires.kept c.requires.kind c.requires.least c.requires.greatest in
     subst (λ n. n ≤ r.greatest) (sym (c.number_or.ensures ∙ ap (number_or r.default) c.value_at.ensures)) within.1

@@ -14,11 +14,17 @@ weights_or_one-requires c = subst (λ o. IfSome o (λ v. are_weights v ≡ true)
 pub returns-clause-some : goal.returns-clause-some
 returns-clause-some c =
     let value = value_at c.args.name.now (codes "weights") (table_view c.args.document.now) in
-    let is = weights_counted value (weights_kept (table_view c.args.document.now) c.args.name.now c.requires.kept c.requires.kind) in
-    subst (λ w. 0 < length w) (sym (c.new.ensures ∙ (c.in_ok-weights.ensures ∙ ap weights_or_one c.value_at.ensures))) is.0
+    let is =
+    weights_counted value
+    (weights_kept (table_view c.args.document.now) c.args.name.now c.requires.kept c.requires.kind) in
+    subst (λ w. 0 < length w)
+    (sym (c.new.ensures ∙ (c.in_ok-weights.ensures ∙ ap weights_or_one c.value_at.ensures))) is.0
 
 pub returns-clause-few : goal.returns-clause-few
 returns-clause-few c =
     let value = value_at c.args.name.now (codes "weights") (table_view c.args.document.now) in
-    let is = weights_counted value (weights_kept (table_view c.args.document.now) c.args.name.now c.requires.kept c.requires.kind) in
-    subst (λ w. length w ≤ replicas_max) (sym (c.new.ensures ∙ (c.in_ok-weights.ensures ∙ ap weights_or_one c.value_at.ensures))) is.1
+    let is =
+    weights_counted value
+    (weights_kept (table_view c.args.document.now) c.args.name.now c.requires.kept c.requires.kind) in
+    subst (λ w. length w ≤ replicas_max)
+    (sym (c.new.ensures ∙ (c.in_ok-weights.ensures ∙ ap weights_or_one c.value_at.ensures))) is.1

@@ -5,5 +5,6 @@ use Rattle.wiki_layout.proofs.layout_values.weights_of_items.Given as goal
 
 abbrev pub invariant-loop-item : goal.invariant-loop-item
 invariant-loop-item l =
-    (l.weights.items ++ numbers_of_items (items_view (drop l.item-index l.fn.items)) ≡ numbers_of_items (items_view l.fn.items))
+    (l.weights.items ++ numbers_of_items (items_view (drop l.item-index l.fn.items))
+    ≡ numbers_of_items (items_view l.fn.items))
     × (all_items is_weight (items_view (drop l.item-index l.fn.items)) ≡ true)

@@ -16,15 +16,19 @@ pub returns-then-has : goal.returns-then-has
 returns-then-has c =
     let l = c.loop-rest in
     let filled : (length l.rest.now == 0) ≡ false = search rules in
-    let at : begun (texts_of l.rest.now) ≡ Some (given_of c.in-Some.given, texts_of c.in-Some.more.now) = search rules in
+    let at : begun (texts_of l.rest.now) ≡ Some (given_of c.in-Some.given, texts_of c.in-Some.more.now) =
+    search rules in
     let twice : has (given_of c.in-Some.given) (found_of l.found) ≡ true = search rules in
-    sym (sym l.invariant ∙ has_begun (found_of l.found) (texts_of l.rest.now) (given_of c.in-Some.given) (texts_of c.in-Some.more.now) (texts_filled l.rest.now filled) at twice)
+    sym (sym l.invariant ∙ has_begun (found_of l.found) (texts_of l.rest.now) (given_of c.in-Some.given)
+    (texts_of c.in-Some.more.now) (texts_filled l.rest.now filled) at twice)
 
 pub loop-rest-preserved : goal.loop-rest-preserved
 loop-rest-preserved c =
     let l = c.loop-rest in
     let filled : (length l.rest.now == 0) ≡ false = search rules in
-    let at : begun (texts_of l.rest.now) ≡ Some (given_of c.in-Some.given, texts_of c.in-Some.more.now) = search rules in
+    let at : begun (texts_of l.rest.now) ≡ Some (given_of c.in-Some.given, texts_of c.in-Some.more.now) =
+    search rules in
     let once : has (given_of c.in-Some.given) (found_of l.found) ≡ false = search rules in
     ap (λ f. found_from f (texts_of c.in-Some.more.now)) c.with-found.ensures
-    ∙ (sym (begun_on (found_of l.found) (texts_of l.rest.now) (given_of c.in-Some.given) (texts_of c.in-Some.more.now) (texts_filled l.rest.now filled) at once) ∙ l.invariant)
+    ∙ (sym (begun_on (found_of l.found) (texts_of l.rest.now) (given_of c.in-Some.given) (texts_of c.in-Some.more.now)
+    (texts_filled l.rest.now filled) at once) ∙ l.invariant)
