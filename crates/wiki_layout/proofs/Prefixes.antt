@@ -6,9 +6,6 @@ use Rattle.std.specs.Str.Pattern.{FindsTextPrefix, StripsPrefix}
 use Rattle.std.proofs.lemmas.Str.Pattern.{starts_text}
 use Rattle.wiki_model.specs.Bytes.{Bytes, begins}
 
-abbrev after_prefix : (prefix text : Bytes) → Option Bytes
-after_prefix prefix text = if begins prefix text then Some (drop (length prefix) text) else None
-
 pub stripped : (prefix text : Bytes) (result : Option (Bor Bytes))
     → MatchOption result (FindsTextPrefix prefix text None)
     (λ rest. StripsPrefix (FindsTextPrefix prefix) text rest.now)

@@ -13,14 +13,15 @@ pub counted : (vs : List Value) → count_of (items_view vs) ≡ length vs
 counted [] = refl
 counted (v ∷ vs) = ap suc (counted vs)
 
-abbrev pub IsCount : ℕ → Type 0
-IsCount n = (0 < n) × (n ≤ replicas_max)
+-- a region may have so many replicas
+abbrev pub IsReplicaCount : ℕ → Type 0
+IsReplicaCount n = (0 < n) × (n ≤ replicas_max)
 
 numbers_counted : (items : Items) → count_of items ≡ length (numbers_of_items items)
 numbers_counted no_items = refl
 numbers_counted (item value more) = ap suc (numbers_counted more)
 
-allowed_counted : (items : Option Items) → are_allowed_weights items ≡ true → IsCount (length (numbers_in items))
+allowed_counted : (items : Option Items) → are_allowed_weights items ≡ true → IsReplicaCount (length (numbers_in items))
 allowed_counted None e = absurd (true≢false (sym e))
 allowed_counted (Some items) e =
     let count =
@@ -28,10 +29,10 @@ allowed_counted (Some items) e =
     let parts = both (nat_lt 0 (count_of items)) (nat_le (count_of items) replicas_max) count.0 in
     let some = parts.0 in
     let few = parts.1 in
-    subst IsCount (numbers_counted items) (grind (arith, nat_tests, some), grind (arith, nat_tests, few))
+    subst IsReplicaCount (numbers_counted items) (grind (arith, nat_tests, some), grind (arith, nat_tests, few))
 
--- what the replicas of a region are made of
+-- a region that is laid out has one to eight
 pub weights_counted : (value : Option Data) → IfSome value (λ v. are_weights v ≡ true)
-    → IsCount (length (weights_or_one value))
+    → IsReplicaCount (length (weights_or_one value))
 weights_counted None e = (omega arith, omega arith)
 weights_counted (Some value) e = allowed_counted (as_array value) e

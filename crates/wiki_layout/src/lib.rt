@@ -7,8 +7,8 @@
 //! each number fits its field, and each list of weights has one to eight.
 //!
 //! Options are read twice. `clap` takes the words as any program would, and a small reader by hand says what they are,
-//! since `clap` takes more than options: `--connections 01`, a lone `--`. It suffices to know that `clap` takes all
-//! words that are options, with these values: then its refusal is right, and what it takes the reader decides.
+//! since `clap` takes more than options: `--connections 01` has a value too. It suffices to know that `clap` takes all
+//! words that are options: then its refusal is right, and what it takes the reader decides.
 //!
 //! What is left to others: where the bytes and the words come from, which status a refusal has, and what a farm does
 //! with its plan, which is `region_state`'s [`FarmPlan`].

@@ -5,6 +5,7 @@ ghost use Rattle.toml.specs.View.{view, table_view, items_view};
 ghost use Rattle.wiki_layout.specs.Layout.{kind_at, region_kind, farm_kind, is_region, is_table_name, is_table, all_members, all_items, inside, is_whole_number, is_list_of_numbers, is_of_kind, lies_between, is_between, are_weights, are_allowed_weights, is_in_range, is_weight, passes, key_passes, table_passes, member_passes, keeps};
 ghost use Rattle.wiki_layout.specs.AsModel.{kind_of};
 
+use farm_base::{BOUND_MAX, MOMENT_MAX};
 use toml::{Table, Value};
 
 /// The numbers that may stand at a key, and the one that is meant if it is absent.
@@ -25,7 +26,7 @@ pub(crate) const SLOTS: Range = Range {
 /// The moment before which no cached page counts, in milliseconds.
 pub(crate) const EPOCH: Range = Range {
     least: 0,
-    greatest: 4_000_000_000_000_000,
+    greatest: MOMENT_MAX,
     default: 0,
 };
 
@@ -46,21 +47,21 @@ pub(crate) const PACE: Range = Range {
 /// How late a commit may follow its purge, in milliseconds.
 pub(crate) const COMMIT_DELAY: Range = Range {
     least: 0,
-    greatest: 60_000,
+    greatest: BOUND_MAX as u64,
     default: 3_000,
 };
 
 /// How far a replica may lag for its page to be kept whole, in milliseconds.
 pub(crate) const READ_LAG: Range = Range {
     least: 0,
-    greatest: 60_000,
+    greatest: BOUND_MAX as u64,
     default: 7_000,
 };
 
 /// By how much the clocks of the two regions may differ, in milliseconds: always by something.
 pub(crate) const SKEW: Range = Range {
     least: 1,
-    greatest: 60_000,
+    greatest: BOUND_MAX as u64,
     default: 1_000,
 };
 
