@@ -1,5 +1,5 @@
 // Reads a layout: its document, the rules one after another, and the plan of what keeps them.
-ghost use Rattle.std.specs.Prelude.{◌≡◌, true, IfOk, Some, None, ℕ, if◌then◌else◌, option_map, codes};
+ghost use Rattle.std.specs.Prelude.{◌≡◌, true, IfOk, Some, None, if◌then◌else◌, option_map, codes};
 ghost use Rattle.std.specs.Str.{is_utf8};
 ghost use Rattle.toml.specs.Parse.{parse_document};
 ghost use Rattle.toml.specs.View.{table_view};

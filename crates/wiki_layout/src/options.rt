@@ -1,10 +1,6 @@
 // The options of a served farm, read by hand: one option after another, each at most once.
-ghost use Rattle.std.specs.Prelude.{◌≡◌, ◌≤◌, ◌<◌, ◌&&◌, ◌||◌, if◌then◌else◌, Some, None, option_map, map, length, drop, codes, bytes_eq, IfSome, MatchOption};
-ghost use Rattle.std.specs.String.{string_bytes};
-ghost use Rattle.std.specs.List.{list_all};
-ghost use Rattle.wiki_model.specs.Bytes.{begins};
-ghost use Rattle.wiki_model.specs.Titles.{is_digit};
-ghost use Rattle.wiki_model.specs.Commands.{is_path, AreOptions};
+ghost use Rattle.std.specs.Prelude.{◌≡◌, ◌≤◌, ◌<◌, ◌&&◌, ◌||◌, if◌then◌else◌, Some, None, option_map, length, codes, IfSome};
+ghost use Rattle.wiki_model.specs.Commands.{is_path};
 ghost use Rattle.wiki_layout.specs.Options.{is_numeral, is_in_limit, count_in, path_in, after_prefix, in_one, with_value, name_in, has, with, begun_named, begun, found_from, nothing, OptionsAre, store_of, count_or_store, options_found, options_read};
 ghost use Rattle.wiki_layout.specs.AsModel.{given_of, found_of, options_of, texts_of};
 

@@ -1,8 +1,7 @@
 // What may stand where in a layout, and the rules on it: one walk over the document, with a test for each rule.
-ghost use Rattle.std.specs.Prelude.{◌≡◌, ◌&&◌, ◌||◌, ◌≤◌, option_map, bytes_eq, codes, length, Some};
-ghost use Rattle.std.specs.List.{list_all};
+ghost use Rattle.std.specs.Prelude.{◌≡◌, ◌&&◌, ◌||◌, ◌≤◌, option_map, Some};
 ghost use Rattle.toml.specs.View.{view, table_view, items_view};
-ghost use Rattle.wiki_layout.specs.Layout.{kind_at, region_kind, farm_kind, is_region, is_table_name, is_table, all_members, all_items, inside, is_whole_number, is_list_of_numbers, is_of_kind, lies_between, is_between, are_weights, are_allowed_weights, is_in_range, is_weight, passes, key_passes, table_passes, member_passes, keeps};
+ghost use Rattle.wiki_layout.specs.Layout.{kind_at, region_kind, farm_kind, is_region, is_table_name, all_members, all_items, inside, is_whole_number, is_list_of_numbers, is_of_kind, lies_between, is_between, are_weights, are_allowed_weights, is_in_range, is_weight, passes, key_passes, table_passes, member_passes, keeps};
 ghost use Rattle.wiki_layout.specs.AsModel.{kind_of};
 
 use farm_base::{BOUND_MAX, MOMENT_MAX};
