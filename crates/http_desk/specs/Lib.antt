@@ -1,0 +1,7 @@
+pub mod Heads
+pub mod Calls
+pub mod Window
+pub mod Incoming
+pub mod Reply
+pub mod Laws
+pub mod AsModel
