@@ -1,6 +1,5 @@
 -- What is put into the found options, one given option after another, is refused exactly if one stands twice; and what
--- is
--- found then is what the given options say. So the reader is exact.
+-- is found then is what the given options say. So the reader is exact.
 use Rattle.std.proofs.Common.{◌≡◌, ℕ, suc, ◌+◌, ◌≤◌, Bool, true, false, List, [], ◌∷◌, Option, Some, None, option_map, unwrap_or, refl, sym, ap, subst, ◌∙◌, arith}
 use Rattle.std.specs.Prelude.{is_some, option_and_then, nat_lt}
 use Rattle.std.proofs.lemmas.Bool.Decides.{nat_tests}

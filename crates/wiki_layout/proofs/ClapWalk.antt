@@ -1,6 +1,5 @@
 -- Words that are options have no fault in `clap`, and its matches have their values. The walk stands between two
--- options in
--- nine states only; from each of them an option leads to another, in one word or in two.
+-- options in nine states only; from each of them an option leads to another, in one word or in two.
 use Rattle.std.proofs.Common.{◌≡◌, ℕ, true, false, List, [], ◌∷◌, ◌++◌, Option, Some, None, refl, codes, sym, ap, subst, ◌∙◌, arith, inl, inr}
 use Rattle.std.specs.Prelude.{◌==◌, bytes_eq, fold, is_some, slice_index, nat_lt, ◌<◌, ◌≤◌, decimal}
 use Rattle.std.proofs.lemmas.Bool.Decides.{nat_tests}
@@ -91,9 +90,9 @@ one_row id value = settled_rows shape.rules (Some (id, value ∷ [])) []
 abbrev two_rows : Text → Text → Text → Text → List Row
 two_rows first value second other = settled_rows shape.rules (Some (second, other ∷ [])) (one_row first value)
 
--- where the walk can stand between two options: nothing was met; an option in two words; one in one word; one in one
--- word
--- and then the other in two; both, the last in one word
+-- where the walk can stand between two options: nothing was met (start); an option in two words (pending), whose value
+-- is settled by the next option alone; one in one word (used); one and then the other in two words (used_pending);
+-- both, the last in one word (used_both)
 abbrev count : Text
 count = codes "connections"
 

@@ -1,6 +1,5 @@
 -- A test of all members holds of the one that a key names, at the top and inside it. So in a document that keeps its
--- ranges
--- a number is in the range of its key, and a list of weights is one that is allowed.
+-- ranges a number is in the range of its key, and a list of weights is one that is allowed.
 use Rattle.std.proofs.Common.{◌≡◌, ℕ, ◌≤◌, Bool, true, false, ◌&&◌, Option, Some, None, nat_cmp, Ordering, Less, Equal, Greater, refl, sym, ap, subst, ◌∙◌, arith, true≢false}
 use Rattle.std.specs.Prelude.{⊤, ℤ, pos, negsuc, option_and_then, nat_le, codes, IfSome}
 use Rattle.std.specs.Cmp.Lexicographic.{slice_cmp}

@@ -36,7 +36,8 @@ unfolding toml_on_literals is_utf8 chars encode
 a_whole_layout_says_each_key = refl
 
 delays_may_be_zero : layout_of
-    (line (codes "[farm]") ++ line (codes "commit_delay = 0") ++ line (codes "read_lag = 0") ++ line (codes "skew = 60000"))
+    (line (codes "[farm]") ++ line (codes "commit_delay = 0") ++ line (codes "read_lag = 0")
+    ++ line (codes "skew = 60000"))
     ≡ Ok (record default_layout { bounds = record { commit_delay = 0; read_lag = 0; skew = 60_000 } })
 unfolding toml_on_literals is_utf8 chars encode
 delays_may_be_zero = refl

@@ -1,6 +1,5 @@
 -- The reader takes one option after another, and the definition reads all of the words at once. A turn is what the two
--- share:
--- what the words begin with, and then what is read of the rest.
+-- share: what the words begin with, and then what is read of the rest.
 use Rattle.std.proofs.Common.{◌≡◌, ◌≢◌, Bool, true, false, List, [], ◌∷◌, Option, Some, None, option_map, length, refl, ap, ◌∙◌, arith, true≢false}
 use Rattle.std.specs.Prelude.{option_and_then, String, ◌==◌}
 use Rattle.std.specs.declared.alloc.Global.{Global}

@@ -1,6 +1,5 @@
 -- What the reader of options takes is an option, and each option is taken: a number's decimal digits are the only
--- numeral
--- of it, and the names of options are no beginnings of each other.
+-- numeral of it, and the names of options are no beginnings of each other.
 use Rattle.std.proofs.Common.{◌≡◌, ◌≢◌, inl, inr, ℕ, suc, ◌<◌, ◌≤◌, ◌^◌, Bool, true, false, ◌||◌, if◌then◌else◌, List, [], ◌∷◌, ◌++◌, Option, Some, None, option_map, length, drop, refl, sym, ap, ◌∙◌, arith, codes, decimal}
 use Rattle.std.specs.Prelude.{⊤, bytes_eq, nat_lt, slice_index}
 use Rattle.std.specs.List.{list_all}

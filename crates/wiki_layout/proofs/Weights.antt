@@ -13,7 +13,7 @@ pub counted : (vs : List Value) → count_of (items_view vs) ≡ length vs
 counted [] = refl
 counted (v ∷ vs) = ap suc (counted vs)
 
--- a region may have so many replicas
+-- a region may have this number of replicas
 abbrev pub IsReplicaCount : ℕ → Type 0
 IsReplicaCount n = (0 < n) × (n ≤ replicas_max)
 

@@ -8,7 +8,7 @@ use Rattle.toml.specs.Data.{Members}
 use Rattle.toml.specs.View.{table_view}
 use Rattle.wiki_model.specs.declared.Region.{Region}
 use Rattle.wiki_model.specs.Bytes.{Bytes}
-use Rattle.wiki_model.specs.Limits.{greatest_moment, replicas_max}
+use Rattle.wiki_model.specs.Limits.{greatest_moment, replicas_max, bound_max}
 use Rattle.wiki_model.specs.Titles.{Title}
 use Rattle.farm_base.specs.AsModel.{bounds_of, are_allowed}
 use Rattle.region_state.specs.AsModel.{IsPlanOf}
@@ -52,5 +52,7 @@ pub record IsAllowed (plan : FarmPlan) : Type 0 where
   pub workers_some : 0 < plan.workers
   pub workers_few : plan.workers ≤ workers_max
   pub bounds : are_allowed (bounds_of plan.bounds) ≡ true
+  pub delay : plan.bounds.commit_delay ≤ bound_max
+  pub skew : 0 < plan.bounds.skew
   pub pace_some : 0 < plan.pace
   pub pace_few : plan.pace ≤ pace_max

@@ -1,8 +1,9 @@
 // Reads a layout: its document, the rules one after another, and the plan of what keeps them.
-ghost use Rattle.std.specs.Prelude.{◌≡◌, true, IfOk, Some, None, if◌then◌else◌, option_map, codes};
+ghost use Rattle.std.specs.Prelude.{◌≡◌, ◌≤◌, ◌<◌, true, IfOk, Some, None, if◌then◌else◌, option_map, codes};
 ghost use Rattle.std.specs.Str.{is_utf8};
 ghost use Rattle.toml.specs.Parse.{parse_document};
 ghost use Rattle.toml.specs.View.{table_view};
+ghost use Rattle.wiki_model.specs.Limits.{bound_max};
 ghost use Rattle.farm_base.specs.AsModel.{bounds_of, are_allowed};
 ghost use Rattle.wiki_layout.specs.Layout.{layout_of, layout_of_document, document_in, plan_in, bounds_in, keeps, kind_at, Number, Weights, weights_at, slots_at, slots_min, slots_max};
 ghost use Rattle.wiki_layout.specs.AsModel.{plan_of};
@@ -57,7 +58,7 @@ pub fn layout_of(alloc: Global, bytes: &[u8]) -> Result<FarmPlan, LayoutFault>
     ensures reads { Reads result (layout_of bytes.now) }
     // It is the plan of a farm with the text's setting.
     ensures setting { IfOk result (λ plan. IsPlan bytes.now plan) }
-    // A farm may be opened with it, over caches of so many slots.
+    // A farm may be opened with it, and its caches made with its slots and its bounds.
     ensures allowed { IfOk result (λ plan. IsAllowed plan) }
 {
     read_layout(alloc, bytes)
@@ -162,6 +163,8 @@ fn bounds_in(document: &Table) -> Bounds
     requires { keeps Rule.Ranges (table_view document.now) ≡ true }
     ensures says { bounds_of result ≡ bounds_in (table_view document.now) }
     ensures allowed { are_allowed (bounds_of result) ≡ true }
+    ensures delay { result.commit_delay ≤ bound_max }
+    ensures skew { 0 < result.skew }
 {
     Bounds {
         commit_delay: number_at(document, "farm", "commit_delay", COMMIT_DELAY) as u32,

@@ -1,10 +1,10 @@
 //! The layout of a farm, read from a text of TOML, and the options with which a farm is served, read from words.
 //!
 //! A person who wrote a text with three mistakes is told of one, and of the same one each time. So there are four rules
-//! with an order, and each is asked of the whole text before the next: (1) it is a document; (2) each table and each key
-//! has a name that is known; (3) each value is of its kind; (4) each number is in its range. The last three are one
-//! walk, made three times, and differ in the test of a value alone. What has passed the fourth needs no test any more:
-//! each number fits its field, and each list of weights has one to eight.
+//! with an order, and each is asked of the whole text before the next: (1) it is a document; (2) each table and key has
+//! a name that is known; (3) each value is of its kind; (4) each number is in its range. The last three are one walk,
+//! made three times, and differ in the test of a value alone. What has passed the fourth needs no test any more: each
+//! number fits its field, and each list of weights has one to eight.
 //!
 //! Options are read twice. `clap` takes the words as any program would, and a small reader by hand says what they are,
 //! since `clap` takes more than options: `--connections 01` has a value too. It suffices to know that `clap` takes all
