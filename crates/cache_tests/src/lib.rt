@@ -1,4 +1,4 @@
-//! Tests of values, of the cache in memory, and of the ledger and its wires.
+//! Tests of values, of the two caches, and of the ledger and its wires.
 //!
 //! A proof covers what a clause says; these tests hold worked rows, whether each call can succeed, faults in turn,
 //! and a long run of the cache beside a plain list of keys. Where a new test goes:
@@ -6,6 +6,8 @@
 //! - `values`: the rule that stores a page, and the rule that keeps it fresh;
 //! - `eviction`: what a full cache forgets;
 //! - `beside_plain`: a cache and the list of keys in `plain`, by random calls;
+//! - `slots`: which slot of the cache of fixed slots a title has;
+//! - `neighbors`: what two titles of one slot, and of two, see of each other;
 //! - `ledger`: messages, their numbers and receipts;
 //! - `wires`: messages on their way, by plan;
 //! - `timed`: a store with the moment that it is called at, which the tests of a cache share;
@@ -21,9 +23,13 @@ mod eviction;
 #[cfg(test)]
 mod ledger;
 #[cfg(test)]
+mod neighbors;
+#[cfg(test)]
 mod plain;
 #[cfg(test)]
 mod setting;
+#[cfg(test)]
+mod slots;
 #[cfg(test)]
 mod timed;
 #[cfg(test)]

@@ -11,7 +11,12 @@ use wiki_titles::Title;
 /// The page with this number.
 pub fn title_of(alloc: Global, page: u32) -> Result<Title, Fail> {
     let text = format!(in alloc; "Page {page}")?;
-    Ok(Title::parse(alloc, text.as_str())?)
+    title_named(alloc, text.as_str())
+}
+
+/// The title with this text.
+pub fn title_named(alloc: Global, text: &str) -> Result<Title, Fail> {
+    Ok(Title::parse(alloc, text)?)
 }
 
 /// A value whose page is the number of its entries, of markup version 1.

@@ -1,8 +1,8 @@
-//! Tests of the calls of `Farm` that no script makes, or of which a report shows too little. Scripts with their reports are in
-//! `run_tests`.
+//! Tests of the calls of `Farm` that no script makes, or of which a report shows too little. Scripts with their
+//! reports are in `run_tests`.
 //!
-//! Each helper takes a farm over any keeper and any cache, so that it needs no more than the bounds of the calls promise; the
-//! tests make the farm, in memory. Where a new test goes:
+//! Each helper takes a farm over any keeper and any cache, so that it needs no more than the bounds of the calls
+//! promise; the tests make the farm, in memory. Where a new test goes:
 //!
 //! - `steps`: steps of which a script shows less, and steps that it has no form for;
 //! - `calls`: calls that are no step;

@@ -41,9 +41,7 @@ end answers=5 entries=3
     assert_report(&rt, rt.alloc(), script, report)
 }
 
-#[test]
-fn the_last_moment_of_a_template(rt: HostRuntime) -> Result<(), Fail> {
-    let script = "\
+const LAST_MOMENT_SCRIPT: &str = "\
 edit 1 t1 A 0 one
 at 2000 2000
 edit 1 t2 Template:X 0 x
@@ -66,7 +64,8 @@ store 2
 view home 2 - 0 A
 end
 ";
-    let report = "\
+
+const LAST_MOMENT_REPORT: &str = "\
 1 saved entry=1 revision=1 cookie=1@0
 3 saved entry=2 revision=1 cookie=2@2
 10 miss checked:13000
@@ -93,7 +92,10 @@ end
 <p>one</p>
 end answers=8 entries=3
 ";
-    assert_report(&rt, rt.alloc(), script, report)
+
+#[test]
+fn the_last_moment_of_a_template(rt: HostRuntime) -> Result<(), Fail> {
+    assert_report(&rt, rt.alloc(), LAST_MOMENT_SCRIPT, LAST_MOMENT_REPORT)
 }
 
 #[test]
@@ -133,9 +135,7 @@ end answers=6 entries=3
     assert_report(&rt, rt.alloc(), script, report)
 }
 
-#[test]
-fn an_interim_page_is_not_older_than_a_template(rt: HostRuntime) -> Result<(), Fail> {
-    let script = "\
+const INTERIM_PAGE_SCRIPT: &str = "\
 edit 1 t1 A 0 {{x}}
 edit 1 t2 Template:X 0 one
 apply home 0 2
@@ -150,7 +150,8 @@ view home 2 - 0 A
 view home 2 - 0 A
 end
 ";
-    let report = "\
+
+const INTERIM_PAGE_REPORT: &str = "\
 1 saved entry=1 revision=1 cookie=1@0
 2 saved entry=2 revision=1 cookie=2@0
 5 ok source=2 from=replica:0 lagged=0 bytes=55
@@ -182,7 +183,10 @@ end
 <p>one</p>
 end answers=9 entries=4
 ";
-    assert_report(&rt, rt.alloc(), script, report)
+
+#[test]
+fn an_interim_page_is_not_older_than_a_template(rt: HostRuntime) -> Result<(), Fail> {
+    assert_report(&rt, rt.alloc(), INTERIM_PAGE_SCRIPT, INTERIM_PAGE_REPORT)
 }
 
 #[test]
@@ -295,9 +299,7 @@ end answers=3 entries=2
     assert_report(&rt, rt.alloc(), script, report)
 }
 
-#[test]
-fn how_a_page_is_kept(rt: HostRuntime) -> Result<(), Fail> {
-    let script = "\
+const HOW_KEPT_SCRIPT: &str = "\
 edit 1 t1 A 0 one
 edit 1 t2 B 0 one
 edit 1 t3 C 0 one
@@ -351,7 +353,8 @@ at 34002 34002
 store 12
 end
 ";
-    let report = "\
+
+const HOW_KEPT_REPORT: &str = "\
 1 saved entry=1 revision=1 cookie=1@0
 2 saved entry=2 revision=1 cookie=2@0
 3 saved entry=3 revision=1 cookie=3@0
@@ -403,5 +406,8 @@ end
 <p>one</p>
 end answers=21 entries=8
 ";
-    assert_report(&rt, rt.alloc(), script, report)
+
+#[test]
+fn how_a_page_is_kept(rt: HostRuntime) -> Result<(), Fail> {
+    assert_report(&rt, rt.alloc(), HOW_KEPT_SCRIPT, HOW_KEPT_REPORT)
 }

@@ -1,5 +1,6 @@
 // A keeper of which calls of `start` and `len` fail.
-ghost use Rattle.std.specs.Prelude.{Some};
+ghost use Rattle.std.specs.Prelude.{◌≤◌, Some};
+ghost use Rattle.wiki_model.specs.Steps.{Rose};
 
 use commit_feed::{Entry, Writes};
 use farm_base::FailingCalls;
@@ -7,7 +8,8 @@ use revision_keeper::{KeepFault, Keeper, MemKeeper};
 use std::alloc::Global;
 use wiki_titles::{ClientId, Title, Token};
 
-/// An empty keeper in memory. The calls of `start` and of `len` in its lists fail, counted from 1; each failure is counted.
+/// An empty keeper in memory. The calls of `start` and of `len` in its lists fail, counted from 1; each failure is
+/// counted.
 #[derive(Drop)]
 pub struct FailingKeeper {
     inner: MemKeeper,
@@ -25,11 +27,6 @@ impl FailingKeeper {
             faults: 0,
         }
     }
-
-    fn fault(&mut self) -> KeepFault {
-        self.faults = self.faults.saturating_add(1);
-        KeepFault::Fault
-    }
 }
 
 impl Keeper for FailingKeeper {
@@ -39,14 +36,14 @@ impl Keeper for FailingKeeper {
 
     fn start(&mut self) -> Result<(), KeepFault> {
         if self.starts.next_fails() {
-            return Err(self.fault());
+            return Err(fault(&mut self.faults));
         }
         self.inner.start()
     }
 
     fn len(&mut self) -> Result<u64, KeepFault> {
         if self.lens.next_fails() {
-            return Err(self.fault());
+            return Err(fault(&mut self.faults));
         }
         self.inner.len()
     }
@@ -69,7 +66,7 @@ impl Keeper for FailingKeeper {
 
     fn append(&mut self, entry: Entry) -> Result<u64, KeepFault> {
         match self.inner.append(entry) {
-            Err(KeepFault::Fault) => Err(self.fault()),
+            Err(KeepFault::Fault) => Err(fault(&mut self.faults)),
             other => other,
         }
     }
@@ -77,4 +74,13 @@ impl Keeper for FailingKeeper {
     fn known(&self) {
         self.inner.known();
     }
+}
+
+// Counts a fault.
+fn fault(faults: &mut u64) -> KeepFault
+    ensures later { faults.old ≤ faults.new }
+    ensures rose { Rose faults.old faults.new }
+{
+    *faults = faults.saturating_add(1);
+    KeepFault::Fault
 }

@@ -45,9 +45,7 @@ end answers=5 entries=3
     assert_report(&rt, rt.alloc(), script, report)
 }
 
-#[test]
-fn a_purge_late_and_repeated(rt: HostRuntime) -> Result<(), Fail> {
-    let script = "\
+const LATE_PURGE_SCRIPT: &str = "\
 edit 1 t1 A 0 one
 apply west 0 1
 view west 2 - 0 A
@@ -68,7 +66,8 @@ carry 3
 view west 2 - 0 A
 end
 ";
-    let report = "\
+
+const LATE_PURGE_REPORT: &str = "\
 1 saved entry=1 revision=1 cookie=1@0
 3 ok source=1 from=replica:0 lagged=0 bytes=55
 <!DOCTYPE html>
@@ -103,12 +102,13 @@ end
 <p>two</p>
 end answers=8 entries=3
 ";
-    assert_report(&rt, rt.alloc(), script, report)
-}
 
 #[test]
-fn a_purge_lost(rt: HostRuntime) -> Result<(), Fail> {
-    let script = "\
+fn a_purge_late_and_repeated(rt: HostRuntime) -> Result<(), Fail> {
+    assert_report(&rt, rt.alloc(), LATE_PURGE_SCRIPT, LATE_PURGE_REPORT)
+}
+
+const LOST_PURGE_SCRIPT: &str = "\
 edit 1 t1 A 0 one
 apply home 0 1
 apply west 0 1
@@ -127,7 +127,8 @@ view west 2 - 0 A
 carry 3
 end
 ";
-    let report = "\
+
+const LOST_PURGE_REPORT: &str = "\
 1 saved entry=1 revision=1 cookie=1@0
 4 ok source=1 from=replica:0 lagged=0 bytes=55
 <!DOCTYPE html>
@@ -158,7 +159,10 @@ end
 16 gone message=3
 end answers=8 entries=2
 ";
-    assert_report(&rt, rt.alloc(), script, report)
+
+#[test]
+fn a_purge_lost(rt: HostRuntime) -> Result<(), Fail> {
+    assert_report(&rt, rt.alloc(), LOST_PURGE_SCRIPT, LOST_PURGE_REPORT)
 }
 
 #[test]
@@ -188,9 +192,7 @@ end answers=4 entries=2
     assert_report(&rt, rt.alloc(), script, report)
 }
 
-#[test]
-fn every_answer(rt: HostRuntime) -> Result<(), Fail> {
-    let script = "\
+const EVERY_ANSWER_SCRIPT: &str = "\
 view home 2 - 0 A
 edit 1 t1 A 0 one
 edit 1 t1 A 0 one
@@ -217,7 +219,8 @@ store 1
 view home 2 - 0 A
 end
 ";
-    let report = "\
+
+const EVERY_ANSWER_REPORT: &str = "\
 1 no-page source=0
 2 saved entry=1 revision=1 cookie=1@0
 3 saved entry=1 revision=1 cookie=1@0
@@ -251,7 +254,10 @@ end
 <p>one</p>
 end answers=15 entries=2
 ";
-    assert_report(&rt, rt.alloc(), script, report)
+
+#[test]
+fn every_answer(rt: HostRuntime) -> Result<(), Fail> {
+    assert_report(&rt, rt.alloc(), EVERY_ANSWER_SCRIPT, EVERY_ANSWER_REPORT)
 }
 
 #[test]
@@ -363,9 +369,7 @@ end answers=4 entries=2
     assert_report(&rt, rt.alloc(), script, report)
 }
 
-#[test]
-fn the_race_that_the_hold_off_is_for(rt: HostRuntime) -> Result<(), Fail> {
-    let script = "\
+const RACE_SCRIPT: &str = "\
 edit 1 t1 A 0 one
 at 20900 20900
 beat
@@ -388,7 +392,8 @@ at 25000 25000
 view home 2 - 0 A
 end
 ";
-    let report = "\
+
+const RACE_REPORT: &str = "\
 1 saved entry=1 revision=1 cookie=1@0
 8 miss absent
 14 saved entry=3 revision=2 cookie=2@22
@@ -409,12 +414,13 @@ end
 <p>one</p>
 end answers=6 entries=3
 ";
-    assert_report(&rt, rt.alloc(), script, report)
-}
 
 #[test]
-fn two_overlapping_purges(rt: HostRuntime) -> Result<(), Fail> {
-    let script = "\
+fn the_race_that_the_hold_off_is_for(rt: HostRuntime) -> Result<(), Fail> {
+    assert_report(&rt, rt.alloc(), RACE_SCRIPT, RACE_REPORT)
+}
+
+const OVERLAPPING_PURGES_SCRIPT: &str = "\
 edit 1 t1 A 0 one
 at 20000 20000
 open 1 edit 1 t2 A 1 two
@@ -438,7 +444,8 @@ at 31500 31500
 view home 2 - 0 A
 end
 ";
-    let report = "\
+
+const OVERLAPPING_PURGES_REPORT: &str = "\
 1 saved entry=1 revision=1 cookie=1@0
 8 saved entry=3 revision=2 cookie=2@23
 11 miss purged:31000
@@ -455,5 +462,13 @@ end
 <p>one</p>
 end answers=6 entries=4
 ";
-    assert_report(&rt, rt.alloc(), script, report)
+
+#[test]
+fn two_overlapping_purges(rt: HostRuntime) -> Result<(), Fail> {
+    assert_report(
+        &rt,
+        rt.alloc(),
+        OVERLAPPING_PURGES_SCRIPT,
+        OVERLAPPING_PURGES_REPORT,
+    )
 }

@@ -1,8 +1,8 @@
 //! Tests of the top call: whole scripts with their reports byte for byte, what is refused, and faults in turn.
 //!
-//! Every test runs the program's own `run` over forms in memory and compares how it ended and all that it wrote. No expected
-//! report is our own output: each was worked by hand, and a second reading in Python (checks/reference) gives it too. Where a
-//! new test goes:
+//! Every test runs the program's own `run` over forms in memory and compares how it ended and all that it wrote. No
+//! expected report is our own output: each was worked by hand, and a second reading in Python (checks/reference)
+//! gives it too. Where a new test goes:
 //!
 //! - `edits`: edits and their answers, and the first views of their pages;
 //! - `pages`: what a text looks like as a page;

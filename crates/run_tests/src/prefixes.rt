@@ -118,9 +118,7 @@ end answers=3 entries=1
     assert_report(&rt, rt.alloc(), script, report)
 }
 
-#[test]
-fn a_replica_that_lags_is_passed_over_if_another_does_not(rt: HostRuntime) -> Result<(), Fail> {
-    let script = "\
+const LAGGING_REPLICA_SCRIPT: &str = "\
 farm 3,1 1 4000000000000000
 edit 1 t1 A 0 one
 apply home 0 1
@@ -139,7 +137,8 @@ at 12002 12002
 view home 2 - 0 A
 end
 ";
-    let report = "\
+
+const LAGGING_REPLICA_REPORT: &str = "\
 2 saved entry=1 revision=1 cookie=1@0
 5 ok source=1 from=replica:0 lagged=0 bytes=55
 <!DOCTYPE html>
@@ -178,5 +177,13 @@ end
 <p>one</p>
 end answers=8 entries=2
 ";
-    assert_report(&rt, rt.alloc(), script, report)
+
+#[test]
+fn a_replica_that_lags_is_passed_over_if_another_does_not(rt: HostRuntime) -> Result<(), Fail> {
+    assert_report(
+        &rt,
+        rt.alloc(),
+        LAGGING_REPLICA_SCRIPT,
+        LAGGING_REPLICA_REPORT,
+    )
 }

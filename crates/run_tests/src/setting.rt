@@ -90,8 +90,9 @@ pub fn run_over<I: Source + Drop, O: Sink + Drop, K: Keeper + Drop>(
         wire: FarmWire::new(alloc),
     };
     let status = run(alloc, &words, &mut outside);
-    match outside.keeper {
-        Some(keeper) => Ok((status, outside.sink, keeper)),
+    let Outside { sink, keeper, .. } = outside;
+    match keeper {
+        Some(keeper) => Ok((status, sink, keeper)),
         None => Err(Fail::new("the keeper was not given back")),
     }
 }

@@ -1,11 +1,11 @@
 -- A script's first lines set what a farm may be opened with: their weights and bounds are within the limits, as they are spelled,
 -- and so are those that stand where no line sets them.
-use Rattle.std.proofs.Common.{◌≡◌, ℕ, ◌+◌, ◌≤◌, ◌<◌, Bool, List, [], ◌∷◌, ◌++◌, length, refl, sym, ap, subst, ◌∙◌, arith}
+use Rattle.std.proofs.Common.{ℕ, ◌≤◌, ◌<◌, Bool, List, [], ◌∷◌, length, arith}
 use Rattle.wiki_model.specs.declared.Region.{Region}
 use Rattle.wiki_model.specs.Bytes.{Bytes}
 use Rattle.wiki_model.specs.Titles.{Title}
-use Rattle.wiki_model.specs.Limits.{Bounds, default_bounds, bound_max, replicas_max, hold_off}
-use Rattle.wiki_model.specs.Script.{Line, Spells, AreLines, IsBounds, IsWeights}
+use Rattle.wiki_model.specs.Limits.{Bounds, default_bounds, replicas_max}
+use Rattle.wiki_model.specs.Script.{Line, AreLines, IsBounds}
 use Rattle.wiki_model.specs.Script.Line.{FarmLine, BoundsLine, At, BeatLine, ApplyLine, EditLine, ViewLine, Open, BeginLine, CommitLine, WaitLine, LookLine, SnapLine, StoreLine, CarryLine, DropLine, MarkupLine, End}
 use Rattle.wiki_model.specs.Report.{script_setting, bounds_of}
 use Rattle.script_runner.specs.RunScript.{IsAllowed}

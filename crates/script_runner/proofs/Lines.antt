@@ -1,6 +1,6 @@
 -- A line's steps follow each other, each from the farm that the one before it left; so a run goes on by all their turns. The line
 -- ends at its first answer, since that closes the request: every answer of a step but a miss does.
-use Rattle.std.proofs.Common.{◌≡◌, ℕ, zero, suc, ◌+◌, ◌≤◌, ◌⊎◌, inl, inr, Bool, true, false, List, [], ◌∷◌, ◌++◌, Option, Some, None, refl, sym, ap, subst, ◌∙◌, arith, nat_eq, reverse}
+use Rattle.std.proofs.Common.{◌≡◌, ℕ, ◌+◌, ◌≤◌, ◌⊎◌, inl, inr, Bool, true, false, List, [], ◌∷◌, ◌++◌, Option, Some, None, refl, sym, ap, subst, ◌∙◌, arith, nat_eq}
 use Rattle.std.specs.Prelude.{not, option_and_then, option_map}
 use Rattle.std.specs.Option.{is_some}
 use Rattle.std.proofs.lemmas.Bool.Decides.{nat_tests}
@@ -13,7 +13,7 @@ use Rattle.wiki_model.specs.World.{World}
 use Rattle.wiki_model.specs.Answers as model
 use Rattle.wiki_model.specs.Answers.{Answer}
 use Rattle.wiki_model.specs.Steps.{Step}
-use Rattle.wiki_model.specs.Runs.{Turn, Reply, One}
+use Rattle.wiki_model.specs.Runs.{Turn, One}
 use Rattle.wiki_model.specs.Sequences.{Makes, GoesOn, ends, is_miss, steps_of_asked}
 use Rattle.wiki_model.specs.Script.{Line, EditLine, ViewLine, Open, steps_of, is_composite}
 use Rattle.wiki_model.specs.declared.Cause.{Cause}
@@ -24,14 +24,14 @@ use Rattle.region_state.specs.declared.ask.ViewAsk.{ViewAsk}
 use Rattle.region_state.specs.declared.ask.Asked as code
 use Rattle.region_state.specs.declared.ask.Asked.TheVariants as asked
 use Rattle.region_state.specs.AsModel.{answer_of, asked_of, view_of}
-use Rattle.wiki_model.specs.Report.{answers_of, shown}
-use Rattle.farm_core.specs.declared.open_request.OpenRequest.{OpenRequest}
-use Rattle.farm_core.specs.declared.open_request.OpenRequest.TheVariants as point
+use Rattle.wiki_model.specs.Report.{shown}
+use Rattle.farm_steps.specs.declared.open_request.OpenRequest.{OpenRequest}
+use Rattle.farm_steps.specs.declared.open_request.OpenRequest.TheVariants as point
 use Rattle.farm_core.specs.FarmParts.{FarmParts, SameShape}
-use Rattle.farm_core.specs.RequestMap.{Entries, open_at, kept_at, unless_taken}
+use Rattle.farm_steps.specs.RequestMap.{Entries, open_at, kept_at, unless_taken}
 use Rattle.farm_core.specs.RequestLife.{Point, Closed, ArrivedEdit, BegunEdit, ArrivedView, WaitedView, LookedView, SnappedView, point_of, point_at, MovesOn, OpensRequest, LeavesRequests, BeginsAt, CommitsAt, WaitsAt, LooksFrom, SnapsAt, StoresFrom, Arrives, Begins, Commits, Waits, Looks, Snaps, Stores}
 use Rattle.farm_core.specs.Runs.{Stands, Steps, turn_of}
-use Rattle.script_runner.specs.MakeLine.{opens, shown_once, IsMissed, GoesOnByLine, MakesLine}
+use Rattle.script_runner.specs.MakeLine.{opens, shown_once, IsMissed, MakesLine}
 
 -- a turn of this step
 abbrev pub turn : Readings → Step → Option Answer → Turn

@@ -1,6 +1,6 @@
 -- The loops over a script's lines: before each line the rest is what is left of all, the farm is ready for the next, and its
 -- answer is told after those before it.
-use Rattle.std.proofs.Common.{◌≡◌, ℕ, suc, ◌+◌, ◌≤◌, List, [], ◌∷◌, ◌++◌, length, Option, None, Some, refl, sym, ap, subst, ◌∙◌, arith, append-nil, append_assoc, length-append, map}
+use Rattle.std.proofs.Common.{◌≡◌, ℕ, suc, ◌+◌, ◌≤◌, List, [], ◌∷◌, ◌++◌, length, Option, None, Some, refl, sym, ap, subst, ◌∙◌, arith, append-nil, append_assoc, length-append}
 use Rattle.wiki_model.specs.declared.Readings.{Readings}
 use Rattle.wiki_model.specs.Bytes.{Bytes}
 use Rattle.wiki_model.specs.History.{Entry}
@@ -14,7 +14,7 @@ use Rattle.drill_script.specs.Summary.{IsSummaryOf, IsOrdered}
 use Rattle.drill_script.specs.declared.script_line.ScriptLine.{ScriptLine}
 use Rattle.drill_script.specs.declared.count_answers.Summary.{Summary}
 use Rattle.farm_core.specs.FarmParts.{FarmParts, IsWhole}
-use Rattle.farm_core.specs.RequestMap.{open_at}
+use Rattle.farm_steps.specs.RequestMap.{open_at}
 use Rattle.script_runner.specs.MakeLine.{IsReadyFor, MakesLine}
 use Rattle.script_runner.specs.RunSoFar.{line_report, answers_more}
 use Rattle.script_runner.specs.RunScript.{IsRunnable, IsUnderWay, IsReported, Continues, Tells, IsTelling, IsCounting, Reports, Counts}

@@ -1,12 +1,11 @@
 -- A farm that is opened by a script's plan has the replicas that the lines speak of, and stands for the run of no step.
-use Rattle.std.proofs.Common.{◌≡◌, ℕ, ◌*◌, ◌<◌, ◌≤◌, List, [], ◌∷◌, length, Option, Some, refl, sym, ap, subst, ◌∙◌}
+use Rattle.std.proofs.Common.{◌≡◌, ℕ, ◌*◌, ◌<◌, ◌≤◌, List, [], ◌∷◌, length, Option, refl, sym, ap, subst, ◌∙◌}
 use Rattle.wiki_model.specs.declared.Region.{Region}
 use Rattle.wiki_model.specs.declared.Region.TheVariants.{Home, West}
 use Rattle.wiki_model.specs.Bytes.{Bytes}
 use Rattle.wiki_model.specs.History.{Entry}
 use Rattle.wiki_model.specs.Limits.{hold_off, replicas_max, bound_max}
 use Rattle.wiki_model.specs.Cache.{CacheMap}
-use Rattle.wiki_model.specs.World.{World, Setting}
 use Rattle.wiki_model.specs.Script.{Line, replicas_of}
 use Rattle.wiki_model.specs.Script.Line.{FarmLine, BoundsLine, At, BeatLine, ApplyLine, EditLine, ViewLine, Open, BeginLine, CommitLine, WaitLine, LookLine, SnapLine, StoreLine, CarryLine, DropLine, MarkupLine, End}
 use Rattle.wiki_model.specs.Report.{script_setting, no_readings}
@@ -14,10 +13,9 @@ use Rattle.farm_base.specs.AsModel.{bounds_of}
 use Rattle.region_state.specs.AsModel.{IsPlanOf}
 use Rattle.region_state.specs.declared.plan.FarmPlan.{FarmPlan}
 use Rattle.farm_core.specs.FarmParts.{FarmParts}
-use Rattle.farm_core.specs.Runs.{Stands}
 use Rattle.farm_core.specs.NewFarm.{IsFresh, IsCacheOf, Opens}
-use Rattle.script_runner.specs.RunScript.{IsAllowed, IsRunnable}
-use Rattle.script_runner.specs.Openings.{Together, IsScriptPlan, IsScriptCache, StartsScript, script_start}
+use Rattle.script_runner.specs.RunScript.{IsAllowed}
+use Rattle.script_runner.specs.Openings.{Together, IsScriptPlan, IsScriptCache, StartsScript}
 use Rattle.script_runner.proofs.Allowed.{script_allowed}
 use Rattle.script_runner.proofs.Ready.{lines_follow}
 

@@ -1,6 +1,6 @@
 -- Each line finds the farm ready for it: its replica is there, since a line names one of those that the first line set; and the
 -- request that it opens is not open, since ids grow from line to line and whole edits and views close the request 0.
-use Rattle.std.proofs.Common.{◌≡◌, ℕ, ◌+◌, ◌≤◌, ◌<◌, Bool, true, false, List, [], ◌∷◌, ◌++◌, length, Option, None, refl, sym, ap, subst, ◌∙◌, arith, nat_eq, append_assoc, length-append}
+use Rattle.std.proofs.Common.{◌≡◌, ℕ, ◌+◌, ◌≤◌, ◌<◌, false, List, [], ◌∷◌, ◌++◌, length, None, refl, sym, subst, arith, append_assoc}
 use Rattle.std.specs.Prelude.{All}
 use Rattle.std.proofs.lemmas.Bool.Decides.{nat_tests}
 use Rattle.std.proofs.lemmas.List.{append-nil}
@@ -14,8 +14,7 @@ use Rattle.drill_script.specs.AsModel.{line_of}
 use Rattle.drill_script.specs.declared.script_line.ScriptLine.{ScriptLine}
 use Rattle.drill_script.specs.declared.script_line.ScriptLine.TheVariants as line
 use Rattle.farm_core.specs.FarmParts.{FarmParts}
-use Rattle.farm_core.specs.RequestMap.{open_at}
-use Rattle.farm_core.specs.ViewSteps.{region_at}
+use Rattle.farm_steps.specs.RequestMap.{open_at}
 use Rattle.script_runner.specs.MakeLine.{IsReadyFor, opens}
 use Rattle.script_runner.specs.RunScript.{AllFollow, NoneOpens}
 

@@ -1,5 +1,5 @@
 -- One line more: its turns come after those of the lines before it, and so does its part of the report.
-use Rattle.std.proofs.Common.{◌≡◌, ℕ, ◌+◌, Bool, List, [], ◌∷◌, ◌++◌, length, reverse, Option, Some, None, refl, sym, ap, subst, ◌∙◌, arith, append-nil, append_assoc}
+use Rattle.std.proofs.Common.{◌≡◌, ℕ, ◌+◌, List, [], ◌∷◌, ◌++◌, length, reverse, Option, Some, None, refl, sym, ap, subst, ◌∙◌, arith, append-nil, append_assoc}
 use Rattle.std.proofs.lemmas.List.{reverse-append}
 use Rattle.wiki_model.specs.declared.Readings.{Readings}
 use Rattle.wiki_model.specs.Bytes.{Bytes}

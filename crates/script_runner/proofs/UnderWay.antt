@@ -1,23 +1,20 @@
 -- A script's run goes on line by line: the readings, the replicas and what is closed are known of the lines that are done, and each
 -- line's answer comes after those before it.
-use Rattle.std.proofs.Common.{◌≡◌, ℕ, ◌+◌, ◌≤◌, Bool, false, List, [], ◌∷◌, ◌++◌, length, Option, None, Some, refl, sym, ap, subst, ◌∙◌, arith, length-append}
+use Rattle.std.proofs.Common.{◌≡◌, ℕ, ◌+◌, ◌≤◌, List, [], ◌∷◌, ◌++◌, length, Option, None, Some, refl, sym, ap, ◌∙◌, arith, length-append}
 use Rattle.wiki_model.specs.declared.Readings.{Readings}
-use Rattle.wiki_model.specs.declared.Region.TheVariants.{Home, West}
 use Rattle.wiki_model.specs.Bytes.{Bytes}
 use Rattle.wiki_model.specs.History.{Entry}
 use Rattle.wiki_model.specs.Cache.{CacheMap}
-use Rattle.wiki_model.specs.World.{World}
 use Rattle.wiki_model.specs.Answers.{Answer}
-use Rattle.wiki_model.specs.Script.{Line, replicas_of}
+use Rattle.wiki_model.specs.Script.{Line}
 use Rattle.wiki_model.specs.Report.{no_readings, readings_after}
 use Rattle.drill_script.specs.AsModel.{line_of}
 use Rattle.drill_script.specs.declared.script_line.ScriptLine.{ScriptLine}
-use Rattle.farm_core.specs.FarmParts.{FarmParts, IsWhole}
-use Rattle.farm_core.specs.RequestMap.{open_at}
-use Rattle.farm_core.specs.Runs.{Stands}
-use Rattle.script_runner.specs.MakeLine.{IsReadyFor, MakesLine, opens}
+use Rattle.farm_core.specs.FarmParts.{FarmParts}
+use Rattle.farm_steps.specs.RequestMap.{open_at}
+use Rattle.script_runner.specs.MakeLine.{IsReadyFor, MakesLine}
 use Rattle.script_runner.specs.RunSoFar.{readings_in, line_report, answers_more}
-use Rattle.script_runner.specs.RunScript.{IsRunnable, IsUnderWay, HasRun, NoneOpens}
+use Rattle.script_runner.specs.RunScript.{IsRunnable, IsUnderWay, NoneOpens}
 use Rattle.script_runner.proofs.Running.{none_run, run_more}
 use Rattle.script_runner.proofs.Ready.{next_follows, ready_for, opens_before}
 

@@ -13,9 +13,9 @@ use Rattle.wiki_model.specs.Report.{answers_of}
 use Rattle.drill_script.specs.declared.script_line.ScriptLine.{ScriptLine}
 use Rattle.drill_script.specs.declared.script_line.ScriptLine.TheVariants as line
 use Rattle.farm_core.specs.FarmParts.{FarmParts, SameShape}
-use Rattle.farm_core.specs.RequestMap.{open_at}
+use Rattle.farm_steps.specs.RequestMap.{open_at}
 use Rattle.farm_core.specs.Runs.{Stands}
-use Rattle.farm_core.specs.ViewSteps.{region_at}
+use Rattle.farm_steps.specs.ViewSteps.{region_at}
 
 -- what a line may be made on: its replica is there, and no request is open under an id that it opens
 abbrev pub IsReadyFor : {K S : Type 0} → FarmParts K S → ScriptLine → Type 0

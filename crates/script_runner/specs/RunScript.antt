@@ -1,5 +1,5 @@
 -- What a run of a whole script does: the steps of all lines, in order, and what is told of their answers.
-use Rattle.std.specs.Prelude.{ℕ, ◌≡◌, ◌+◌, ◌*◌, ◌<◌, ◌≤◌, Bool, false, List, [], ◌∷◌, ◌++◌, length, Option, None, Some}
+use Rattle.std.specs.Prelude.{ℕ, ◌≡◌, ◌+◌, ◌*◌, ◌<◌, ◌≤◌, false, List, [], ◌∷◌, ◌++◌, length, Option, None, Some}
 use Rattle.wiki_model.specs.declared.Region.TheVariants.{Home, West}
 use Rattle.wiki_model.specs.declared.Readings.{Readings}
 use Rattle.wiki_model.specs.Bytes.{Bytes}
@@ -12,13 +12,12 @@ use Rattle.wiki_model.specs.Steps.{Rose}
 use Rattle.wiki_model.specs.Script.{Line, MayFollow, replicas_of}
 use Rattle.wiki_model.specs.Report.{no_readings, report_line}
 use Rattle.farm_base.specs.Exposed.{Adds, AddsPrefix}
-use Rattle.drill_script.specs.AsModel.{line_of}
 use Rattle.drill_script.specs.ReadScript.{lines_of}
 use Rattle.drill_script.specs.Summary.{IsSummaryOf, IsOrdered}
 use Rattle.drill_script.specs.declared.script_line.ScriptLine.{ScriptLine}
 use Rattle.drill_script.specs.declared.count_answers.Summary.{Summary}
 use Rattle.farm_core.specs.FarmParts.{FarmParts, IsWhole}
-use Rattle.farm_core.specs.RequestMap.{open_at}
+use Rattle.farm_steps.specs.RequestMap.{open_at}
 use Rattle.farm_core.specs.Runs.{Stands}
 use Rattle.script_runner.specs.MakeLine.{opens}
 use Rattle.script_runner.specs.RunSoFar.{readings_in, RunSoFar}

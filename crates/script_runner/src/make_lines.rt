@@ -6,7 +6,7 @@ ghost use Rattle.edit_core.specs.AsModel.{edit_of};
 ghost use Rattle.region_state.specs.AsModel.{answer_of, view_of};
 ghost use Rattle.region_state.specs.declared.ask.Asked.TheVariants as asked;
 ghost use Rattle.farm_core.specs.FarmParts.{IsWhole};
-ghost use Rattle.farm_core.specs.RequestMap.{open_at};
+ghost use Rattle.farm_steps.specs.RequestMap.{open_at};
 ghost use Rattle.script_runner.specs.MakeLine.{IsReadyFor, IsMissed, MakesLine};
 
 use drill_script::ScriptLine;

@@ -1,5 +1,5 @@
 // How much of a report is written, and writing the lines of one more answer.
-ghost use Rattle.std.specs.Prelude.{◌≡◌, ◌+◌, ◌++◌, length, Option, option_map};
+ghost use Rattle.std.specs.Prelude.{◌+◌, ◌++◌};
 ghost use Rattle.wiki_model.specs.Report.{report_line};
 ghost use Rattle.region_state.specs.AsModel.{answer_of};
 ghost use Rattle.script_runner.specs.RunScript.{IsReported, Continues};

@@ -8,7 +8,7 @@ ghost use Rattle.drill_script.specs.AsModel.{line_of};
 ghost use Rattle.drill_script.specs.ReadScript.{lines_of};
 ghost use Rattle.drill_script.specs.Summary.{IsSummaryOf, IsOrdered};
 ghost use Rattle.farm_core.specs.FarmParts.{IsWhole};
-ghost use Rattle.farm_core.specs.RequestMap.{open_at};
+ghost use Rattle.farm_steps.specs.RequestMap.{open_at};
 ghost use Rattle.script_runner.specs.MakeLine.{IsReadyFor, MakesLine};
 ghost use Rattle.script_runner.specs.RunSoFar.{answers_more};
 ghost use Rattle.script_runner.specs.RunScript.{IsRunnable, Reports, Counts, Tells};

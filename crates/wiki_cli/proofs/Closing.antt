@@ -1,6 +1,6 @@
 -- The run that a script made is that of its report: its turns, its last world, and the keeper's length are those of the last line.
-use Rattle.std.proofs.Common.{◌≡◌, ℕ, ◌+◌, ◌≤◌, ◌⊎◌, inl, inr, List, [], ◌∷◌, ◌++◌, length, reverse, Option, None, Some, Result, Ok, Err, refl, sym, ap, subst, ◌∙◌, arith}
-use Rattle.std.specs.Prelude.{IfSome, IfOk}
+use Rattle.std.proofs.Common.{◌≡◌, ℕ, ◌+◌, ◌≤◌, List, [], ◌++◌, length, Option, Result, Ok, Err, refl, sym, ap, subst, ◌∙◌, arith}
+use Rattle.std.specs.Prelude.{IfSome}
 use Rattle.wiki_model.specs.Bytes.{Bytes}
 use Rattle.wiki_model.specs.History.{Entry}
 use Rattle.wiki_model.specs.Cache.{CacheMap}
@@ -9,8 +9,8 @@ use Rattle.wiki_model.specs.Answers.{Answer}
 use Rattle.wiki_model.specs.Steps.{Rose}
 use Rattle.wiki_model.specs.Script.{Line}
 use Rattle.wiki_model.specs.Report.{report, report_from, answer_count, end_line}
-use Rattle.wiki_model.specs.Generator.{all_answers, summary, summary_of}
-use Rattle.farm_base.specs.Exposed.{Adds, AddsPrefix, Stays}
+use Rattle.wiki_model.specs.Generator.{summary_of}
+use Rattle.farm_base.specs.Exposed.{Stays}
 use Rattle.revision_keeper.specs.declared.keeper.KeepFault.{KeepFault}
 use Rattle.revision_keeper.specs.declared.keeper.KeepFault.TheVariants as keep
 use Rattle.revision_keeper.specs.Causes.{HasFault}
@@ -19,14 +19,13 @@ use Rattle.drill_script.specs.declared.count_answers.Summary.{Summary}
 use Rattle.farm_core.specs.FarmParts.{FarmParts}
 use Rattle.farm_core.specs.Runs.{Stands}
 use Rattle.script_runner.specs.RunSoFar.{RunSoFar}
-use Rattle.script_runner.specs.RunScript.{IsReported, Reports, Counts}
-use Rattle.script_runner.specs.declared.report_state.ReportState.{ReportState}
+use Rattle.script_runner.specs.RunScript.{Reports, Counts}
 use Rattle.script_runner.specs.declared.report_state.ReportState.TheVariants as state
 use Rattle.script_runner.specs.declared.report_state.Told.{Told}
 use Rattle.script_runner.proofs.Running.{counted}
-use Rattle.script_runner.proofs.Reported.{rose_after, rose_before}
-use Rattle.wiki_cli.specs.Ends.{Kept, IsRunFrom, IsReportFrom, IsCutReportFrom, IsSummaryFrom, EndsReport, EndsSummary, HasRisen}
-use Rattle.wiki_cli.specs.RunFarm.{kept_by, IsRunEnd, WritesLast, FailsReport, ClosesReport, WritesCounts, WritesSummary}
+use Rattle.script_runner.proofs.Reported.{rose_after}
+use Rattle.wiki_cli.specs.Ends.{Kept, IsRunFrom, IsReportFrom, IsCutReportFrom, IsSummaryFrom, EndsReport, EndsSummary}
+use Rattle.wiki_cli.specs.RunFarm.{kept_by, ClosesReport, WritesCounts, WritesSummary}
 use Rattle.wiki_cli.specs.declared.status.Status.{Status}
 use Rattle.wiki_cli.specs.declared.status.Status.TheVariants as status
 use Rattle.wiki_cli.proofs.Texts.{last_written, fault_written, memory_written, stays_same}

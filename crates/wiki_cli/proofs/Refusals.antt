@@ -1,5 +1,5 @@
 -- A farm that is not opened, and counts of faults that began lower.
-use Rattle.std.proofs.Common.{◌≡◌, ℕ, ◌≤◌, ◌⊎◌, inl, inr, List, Option, Result, Ok, Err, refl, sym, ap, subst, ◌∙◌, arith}
+use Rattle.std.proofs.Common.{◌≡◌, ℕ, ◌≤◌, inl, Option, Ok, sym, subst}
 use Rattle.wiki_model.specs.Bytes.{Bytes}
 use Rattle.wiki_model.specs.Steps.{Rose}
 use Rattle.farm_core.specs.NewFarm.{HasNewFault}

@@ -1,5 +1,5 @@
 -- How a run may end, and that a fault is named only if its count rose.
-use Rattle.std.proofs.Common.{◌≡◌, ℕ, ◌≤◌, List, Option, Result, Ok, Err, refl, sym, subst, arith}
+use Rattle.std.proofs.Common.{ℕ, ◌≤◌, Option, Result, Ok, Err, refl, sym, subst}
 use Rattle.wiki_model.specs.Bytes.{Bytes}
 use Rattle.wiki_model.specs.Steps.{Rose}
 use Rattle.revision_keeper.specs.declared.keeper.KeepFault.{KeepFault}
@@ -10,7 +10,7 @@ use Rattle.script_runner.specs.RunScript.{IsReported}
 use Rattle.script_runner.specs.declared.report_state.ReportState.{ReportState}
 use Rattle.script_runner.specs.declared.report_state.ReportState.TheVariants as state
 use Rattle.script_runner.specs.declared.report_state.Told.{Told}
-use Rattle.script_runner.proofs.Reported.{rose_after, rose_before}
+use Rattle.script_runner.proofs.Reported.{rose_after}
 use Rattle.wiki_cli.specs.Ends.{HasRisen}
 use Rattle.wiki_cli.specs.RunFarm.{IsRunEnd, WritesLast, FailsReport, ClosesReport, WritesCounts, WritesSummary}
 use Rattle.wiki_cli.specs.declared.status.Status.{Status}

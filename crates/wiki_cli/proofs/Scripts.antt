@@ -1,5 +1,5 @@
 -- What is said of a run's text is said of a script's bytes, and of the input of which they are the whole.
-use Rattle.std.proofs.Common.{◌≡◌, ℕ, ◌+◌, ◌≤◌, ◌<◌, ◌⊎◌, inl, inr, List, [], ◌∷◌, ◌++◌, length, Option, None, Some, refl, sym, ap, subst, ◌∙◌, arith, Bool, true, false, nat_le, append-nil, append_assoc, length-append}
+use Rattle.std.proofs.Common.{◌≡◌, ℕ, ◌+◌, ◌≤◌, ◌<◌, inl, inr, List, [], ◌∷◌, ◌++◌, length, Option, None, Some, refl, sym, ap, subst, ◌∙◌, arith, Bool, true, false, nat_le, append-nil, append_assoc, length-append}
 use Rattle.std.specs.Prelude.{IfSome}
 use Rattle.std.proofs.lemmas.Bool.Decides.{nat_tests}
 use Rattle.std.specs.Io.KnownBytes.{IsAtEnd}
@@ -7,8 +7,7 @@ use Rattle.wiki_model.specs.Bytes.{Bytes}
 use Rattle.wiki_model.specs.Limits.{script_max}
 use Rattle.wiki_model.specs.World.{World}
 use Rattle.wiki_model.specs.Script.{Line, IsFirstFault}
-use Rattle.farm_base.specs.Exposed.{Adds, AddsPrefix, Stays, ReadsAll}
-use Rattle.wiki_cli.specs.Command.{store_fault_line}
+use Rattle.farm_base.specs.Exposed.{ReadsAll}
 use Rattle.wiki_cli.specs.Ends.{Kept, OfScript, IsReportFrom, IsCutReportFrom, IsReportOf, IsCutReportOf, EndsReport, EndsSummary, Drills, IsRefusedBy}
 use Rattle.wiki_cli.specs.declared.status.Status.{Status}
 use Rattle.wiki_cli.specs.declared.status.Status.TheVariants as status

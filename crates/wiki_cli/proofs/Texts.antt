@@ -1,35 +1,21 @@
 -- What is written of a run: the answers so far, and after them the last line or that of a keeper that failed.
-use Rattle.std.proofs.Common.{◌≡◌, ℕ, ◌+◌, ◌≤◌, ◌⊎◌, inl, inr, List, [], ◌∷◌, ◌++◌, length, take, reverse, Option, None, Some, Result, Ok, Err, refl, sym, ap, subst, ◌∙◌, arith}
-use Rattle.std.specs.Prelude.{IfSome, IfOk}
+use Rattle.std.proofs.Common.{◌≡◌, ℕ, ◌+◌, inl, inr, List, [], ◌++◌, length, take, Option, None, Some, Ok, refl, sym, subst, arith}
 use Rattle.wiki_model.specs.Bytes.{Bytes}
-use Rattle.wiki_model.specs.History.{Entry}
-use Rattle.wiki_model.specs.Cache.{CacheMap}
-use Rattle.wiki_model.specs.World.{World}
 use Rattle.wiki_model.specs.Answers.{Answer}
 use Rattle.wiki_model.specs.Steps.{Rose}
-use Rattle.wiki_model.specs.Script.{Line}
-use Rattle.wiki_model.specs.Report.{report, report_from, answer_count, end_line}
-use Rattle.wiki_model.specs.Generator.{all_answers, summary, summary_of}
+use Rattle.wiki_model.specs.Generator.{summary_of}
 use Rattle.farm_base.specs.Exposed.{Adds, AddsPrefix, Stays}
 use Rattle.farm_base.proofs.Chains.{adds_then}
-use Rattle.revision_keeper.specs.declared.keeper.KeepFault.{KeepFault}
 use Rattle.revision_keeper.specs.declared.keeper.KeepFault.TheVariants as keep
-use Rattle.revision_keeper.specs.Causes.{HasFault}
-use Rattle.revision_keeper.specs.Keeper.{IsLength}
 use Rattle.drill_script.specs.Summary.{IsSummaryOf}
 use Rattle.drill_script.specs.declared.count_answers.Summary.{Summary}
-use Rattle.farm_core.specs.FarmParts.{FarmParts}
-use Rattle.farm_core.specs.Runs.{Stands}
-use Rattle.script_runner.specs.RunSoFar.{RunSoFar}
-use Rattle.script_runner.specs.RunScript.{IsReported, Reports, Counts}
+use Rattle.script_runner.specs.RunScript.{IsReported}
 use Rattle.script_runner.specs.declared.report_state.ReportState.{ReportState}
 use Rattle.script_runner.specs.declared.report_state.ReportState.TheVariants as state
-use Rattle.script_runner.specs.declared.report_state.Told.{Told}
-use Rattle.script_runner.proofs.Running.{counted}
-use Rattle.script_runner.proofs.Reported.{prefix_then, prefix_more, rose_after, rose_before}
+use Rattle.script_runner.proofs.Reported.{prefix_then, prefix_more, rose_after}
 use Rattle.wiki_cli.specs.Command.{store_fault_line}
-use Rattle.wiki_cli.specs.Ends.{Kept, IsWritten, IsRunFrom, IsReportFrom, IsCutReportFrom, IsSummaryFrom, EndsReport, EndsSummary, Writes, HasRisen}
-use Rattle.wiki_cli.specs.RunFarm.{kept_by, IsRunEnd, WritesLast, FailsReport, ClosesReport, WritesText, WritesCounts, WritesSummary}
+use Rattle.wiki_cli.specs.Ends.{EndsReport}
+use Rattle.wiki_cli.specs.RunFarm.{WritesLast, FailsReport, WritesText, WritesCounts}
 use Rattle.wiki_cli.specs.declared.status.Status.{Status}
 use Rattle.wiki_cli.specs.declared.status.Status.TheVariants as status
 

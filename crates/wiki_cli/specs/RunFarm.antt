@@ -1,12 +1,12 @@
 -- What the last part of a command writes, after a script was run.
-use Rattle.std.specs.Prelude.{ℕ, ◌≡◌, ◌⊎◌, ◌≤◌, List, ◌++◌, Option, Result, Ok, Err}
+use Rattle.std.specs.Prelude.{ℕ, ◌≡◌, ◌≤◌, List, Option, Result, Ok, Err}
 use Rattle.wiki_model.specs.Bytes.{Bytes}
 use Rattle.wiki_model.specs.History.{Entry}
 use Rattle.wiki_model.specs.Answers.{Answer}
 use Rattle.wiki_model.specs.Steps.{Rose}
 use Rattle.wiki_model.specs.Report.{end_line}
 use Rattle.wiki_model.specs.Generator.{summary_of}
-use Rattle.farm_base.specs.Exposed.{Adds, AddsPrefix, Stays}
+use Rattle.farm_base.specs.Exposed.{Adds, AddsPrefix}
 use Rattle.revision_keeper.specs.declared.keeper.KeepFault.{KeepFault}
 use Rattle.revision_keeper.specs.declared.keeper.KeepFault.TheVariants as keep
 use Rattle.drill_script.specs.Summary.{IsSummaryOf}

@@ -1,9 +1,8 @@
 // The commands, over a keeper of the history: what each reads, runs and writes.
-ghost use Rattle.std.specs.Prelude.{◌≡◌, ◌≢◌, ◌⊎◌, ◌≤◌, ◌<◌, ◌^◌, ◌+◌, [], Some, ℕ, List, length, IfOk, IfSome};
+ghost use Rattle.std.specs.Prelude.{◌≡◌, ◌≤◌, ◌<◌, ◌+◌, [], Some, ℕ, List, IfSome};
 ghost use Rattle.std.specs.Io.KnownBytes.{IsAtEnd};
-ghost use Rattle.wiki_model.specs.History.{Entry};
 ghost use Rattle.wiki_model.specs.Steps.{Rose};
-ghost use Rattle.wiki_model.specs.Limits.{script_max, seed_limit, steps_max};
+ghost use Rattle.wiki_model.specs.Limits.{seed_limit, steps_max};
 ghost use Rattle.wiki_model.specs.Script.{Line, IsScript};
 ghost use Rattle.revision_keeper.specs.Causes.{HasFault};
 ghost use Rattle.revision_keeper.specs.Keeper.{IsLength};

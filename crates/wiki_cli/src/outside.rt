@@ -33,81 +33,6 @@ pub struct Outside<I: Drop, O: Drop, D: Drop, K: Drop, C: Drop, L: Drop, W: Drop
     pub wire: W,
 }
 
-/// Does what the words say.
-fn run_words<I, O, D, K, C, L, W>(
-    alloc: Global,
-    words: &[String],
-    outside: &mut Outside<I, O, D, K, C, L, W>,
-) -> Status
-where
-    I: Source + Drop,
-    O: Sink + Drop,
-    D: Door + Drop,
-    K: Keeper + Drop,
-    C: Clock + Drop,
-    L: Lots + Drop,
-    W: Wire + Drop,
-    requires keeper { IsSome outside.old.keeper }
-    // The keeper is given back.
-    ensures keeper { IsSome outside.new.keeper }
-
-    // The words are refused exactly if they are no command.
-    ensures words { (result ≡ Usage) ↔ AreNoCommand words.now }
-
-    // A refusal writes its own line, or a prefix of it if a write failed.
-    ensures says { Says (Rose (O.faults outside.old.sink) (O.faults outside.new.sink))
-        (O.written outside.old.sink) (O.written outside.new.sink) result }
-
-    // A script is refused by its first line outside the grammar.
-    ensures script { IfSome (I.left outside.old.source) (λ input. IsRefusedBy input result) }
-
-    // The bytes read are a script, and what is written is the report of a run of its steps from an empty history, or a
-    // prefix of it if a write failed or memory ran out.
-    ensures drill { AreWordsOf Drill words.now → IfSome (I.left outside.old.source) (λ input.
-        OfKeepers outside.old.keeper outside.new.keeper (λ before after. K.content before ≡ Some []
-        → Drills input (K.faults before) (kept_by K.content K.faults after)
-        (Rose (O.faults outside.old.sink) (O.faults outside.new.sink))
-        (O.written outside.old.sink) (O.written outside.new.sink) result)) }
-
-    // What is written counts the answers of a run of the script that the numbers make.
-    ensures stir { (seed steps : ℕ) → AreWordsOf (Stir seed steps) words.now
-        → OfKeepers outside.old.keeper outside.new.keeper (λ before after. K.content before ≡ Some []
-        → Stirs seed steps (K.faults before) (kept_by K.content K.faults after)
-        (Rose (O.faults outside.old.sink) (O.faults outside.new.sink))
-        (O.written outside.old.sink) (O.written outside.new.sink) result) }
-
-    // Nothing is run on a history that has entries.
-    ensures not_empty { (AreNoCommand words.now → ⊥) → OfKeepers outside.old.keeper outside.new.keeper (λ before after.
-        IfSome (K.content before) (λ history. IsNotEmpty history result)) }
-    ensures entries { OfKeepers outside.old.keeper outside.new.keeper (λ before after.
-        IfSome (K.content before) (λ history. CountsEntries history result)) }
-
-    // A fault is named only if its count rose.
-    ensures read { result ≡ ReadFault → Rose (I.faults outside.old.source) (I.faults outside.new.source) }
-    ensures cause { OfKeepers outside.old.keeper outside.new.keeper (λ before after.
-        HasRisen (Rose (O.faults outside.old.sink) (O.faults outside.new.sink))
-        (Rose (K.faults before) (K.faults after)) result) }
-
-    // A script that was run was read to its end.
-    ensures read_out { AreWordsOf Drill words.now
-        → OfKeepers outside.old.keeper outside.new.keeper (λ before after. K.content before ≡ Some []
-        → result ≡ Done → IsAtEnd (I.left outside.new.source)) }
-{
-    let Some(command) = read_command(words) else {
-        return refuse(&mut outside.sink, USAGE, Status::Usage);
-    };
-    let keeper = outside.keeper.take().unwrap();
-    let ended = perform(
-        alloc,
-        command,
-        &mut outside.source,
-        keeper,
-        &mut outside.sink,
-    );
-    outside.keeper = Some(ended.keeper);
-    ended.status
-}
-
 /// All that the program does.
 ///
 /// With the word `drill` the whole script is read first; then all its steps are made from an empty history, and the
@@ -191,5 +116,17 @@ where
         → (Rose (O.faults outside.old.sink) (O.faults outside.new.sink) → ⊥)
         → (result ≡ Done) ⊎ (result ≡ OutOfMemory) }
 {
-    run_words(alloc, words, outside)
+    let Some(command) = read_command(words) else {
+        return refuse(&mut outside.sink, USAGE, Status::Usage);
+    };
+    let keeper = outside.keeper.take().unwrap();
+    let ended = perform(
+        alloc,
+        command,
+        &mut outside.source,
+        keeper,
+        &mut outside.sink,
+    );
+    outside.keeper = Some(ended.keeper);
+    ended.status
 }

@@ -1,5 +1,5 @@
 // A script's run on a farm, up to what is written of it.
-ghost use Rattle.std.specs.Prelude.{◌≡◌, ◌≤◌, []};
+ghost use Rattle.std.specs.Prelude.{◌≤◌, []};
 ghost use Rattle.wiki_model.specs.World.{World};
 ghost use Rattle.wiki_model.specs.Steps.{Rose};
 ghost use Rattle.wiki_model.specs.Report.{end_line};

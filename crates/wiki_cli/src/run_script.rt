@@ -1,11 +1,10 @@
 // A script's run over a keeper's history, on a farm whose caches are the program's.
-ghost use Rattle.std.specs.Prelude.{◌≡◌, ◌≤◌};
+ghost use Rattle.std.specs.Prelude.{◌≡◌};
 ghost use Rattle.wiki_model.specs.declared.Region.TheVariants.{Home, West};
 ghost use Rattle.wiki_model.specs.Steps.{Rose};
-ghost use Rattle.drill_script.specs.ReadScript.{lines_of, HasRoom};
+ghost use Rattle.drill_script.specs.ReadScript.{lines_of};
 ghost use Rattle.script_runner.specs.Openings.{IsScriptPlan, IsScriptCache};
-ghost use Rattle.wiki_cli.specs.Ends.{together, IsReportFrom, IsCutReportFrom, IsSummaryFrom, IsWritten, EndsReport, EndsSummary, HasRisen};
-ghost use Rattle.wiki_cli.specs.Command.{store_fault_line};
+ghost use Rattle.wiki_cli.specs.Ends.{together, IsReportFrom, IsCutReportFrom, IsSummaryFrom, EndsReport, EndsSummary, HasRisen};
 ghost use Rattle.wiki_cli.specs.RunFarm.{kept_by, IsRunEnd};
 ghost use Rattle.wiki_cli.specs.Commands.{FromStart, fault_status, RefusesOpening};
 

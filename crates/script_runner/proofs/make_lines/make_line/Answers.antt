@@ -1,4 +1,4 @@
-use Rattle.std.proofs.Common.{◌≡◌, ap, refl, false, None, option_map}
+use Rattle.std.proofs.Common.{ap, refl, false, None, option_map}
 use Rattle.wiki_model.specs.Steps as step
 use Rattle.region_state.specs.AsModel.{answer_of, asked_of}
 use Rattle.farm_core.specs.RequestLife.{ArrivedEdit, BegunEdit, ArrivedView, WaitedView, LookedView, SnappedView, first_point, BeginsAt, CommitsAt, WaitsAt, LooksFrom, SnapsAt, StoresFrom}

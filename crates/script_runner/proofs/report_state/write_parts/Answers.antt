@@ -1,5 +1,3 @@
-use Rattle.std.proofs.Common.{subst, sym}
-use Rattle.script_runner.specs.RunScript.{IsReported}
 use Rattle.script_runner.proofs.Reported.{whole_then}
 use Rattle.script_runner.proofs.report_state.write_parts.Goals as goal
 

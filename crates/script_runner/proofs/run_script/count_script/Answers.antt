@@ -1,8 +1,7 @@
-use Rattle.std.proofs.Common.{◌≡◌, ◌≤◌, List, length, option_map, refl, sym, ap, subst, ◌∙◌, arith}
+use Rattle.std.proofs.Common.{length, option_map, sym, ap, ◌∙◌, arith}
 use Rattle.std.specs.Vec.Iter.{into_iter_items, into_iter_len}
 use Rattle.region_state.specs.AsModel.{answer_of}
-use Rattle.drill_script.specs.declared.script_line.ScriptLine.{ScriptLine}
-use Rattle.script_runner.proofs.Loops.{left_length, finds_ready, finds_free, counting_none, counting_more, counted_all, few_answers}
+use Rattle.script_runner.proofs.Loops.{left_length, finds_ready, finds_free, counting_none, counting_more}
 use Rattle.script_runner.proofs.run_script.count_script.Goals as goal
 
 pub loop-line-init : goal.loop-line-init

@@ -1,21 +1,45 @@
-use Rattle.std.proofs.Common.{sym, subst, ◌∙◌}
+use Rattle.std.proofs.Common.{◌≡◌, [], Some, sym, subst, ◌∙◌}
 use Rattle.wiki_model.specs.Steps.{Rose}
-use Rattle.wiki_cli.specs.Ends.{IsSummaryOf}
+use Rattle.wiki_cli.specs.Ends.{Stirs, IsSummaryOf}
 use Rattle.wiki_cli.specs.RunFarm.{kept_by}
-use Rattle.wiki_cli.specs.declared.command.Command.TheVariants.{Drill}
+use Rattle.wiki_cli.specs.Commands.{IsCommandEnd, OfKeepers}
+use Rattle.wiki_cli.specs.declared.command.Command.TheVariants.{Drill, Stir}
+use Rattle.wiki_cli.proofs.CommandWords.{one_command}
 use Rattle.wiki_cli.proofs.Complete.{drill_ends_well, stir_ends_well}
 use Rattle.wiki_cli.proofs.outside.run.Goals as goal
 
+pub returns-in_default-clause-stir : goal.returns-in_default-clause-stir
+returns-in_default-clause-stir g c = λ seed steps are. absurd (c.in_default.ensures (Stir seed steps) are)
+
+pub returns-in_default-clause-complete_drill : goal.returns-in_default-clause-complete_drill
+returns-in_default-clause-complete_drill g c = λ are script calm reading writing. absurd (c.in_default.ensures Drill are)
+
+pub returns-in_default-clause-complete_stir : goal.returns-in_default-clause-complete_stir
+returns-in_default-clause-complete_stir g c = λ seed steps are calm writing. absurd (c.in_default.ensures (Stir seed steps) are)
+
+pub returns-clause-stir : goal.returns-clause-stir
+returns-clause-stir g c = λ seed steps are.
+    let is = one_command c.args.words.now c.in-Some.command (Stir seed steps) c.in-Some.ensures are in
+    subst (λ k. OfKeepers k (Some c.perform-ended.result.keeper) (λ before after. g.K.Keeper.content before ≡ Some [] → Stirs seed steps (g.K.Keeper.faults before) (kept_by g.K.Keeper.content g.K.Keeper.faults after) (Rose (g.O.Sink.faults c.args.outside.now.sink) (g.O.Sink.faults c.perform-ended.new.sink)) (g.O.Sink.written c.args.outside.now.sink) (g.O.Sink.written c.perform-ended.new.sink) c.perform-ended.result.status))
+    (sym (sym c.take.ensures.value ∙ c.unwrap-keeper.ensures)) (c.perform-ended.ensures.stirs seed steps is)
+
 pub returns-clause-complete_drill : goal.returns-clause-complete_drill
 returns-clause-complete_drill g c = λ are script calm reading writing.
-    let e = c.run_words.ensures in
-    drill_ends_well g.K.Keeper.content g.K.Keeper.faults (Rose (g.O.Sink.faults c.args.outside.now.sink) (g.O.Sink.faults c.run_words.new.outside.sink)) c.run_words.result (g.I.Source.left c.args.outside.now.source) c.args.outside.now.keeper c.run_words.new.outside.keeper
-    (λ usage. e.words.0 usage Drill are) script e.script (λ fault. reading (e.read fault)) writing calm e.entries e.cause
+    let e = c.perform-ended.ensures in
+    let content = g.K.Keeper.content in
+    let faults = g.K.Keeper.faults in
+    let there = sym c.take.ensures.value ∙ c.unwrap-keeper.ensures in
+    drill_ends_well content faults (Rose (g.O.Sink.faults c.args.outside.now.sink) (g.O.Sink.faults c.perform-ended.new.sink)) c.perform-ended.result.status (g.I.Source.left c.args.outside.now.source) (Some c.unwrap-keeper.result) (Some c.perform-ended.result.keeper)
+    (λ usage. subst IsCommandEnd usage e.end) script e.refused (λ fault. reading (e.read fault)) writing
+    (subst (λ k. OfKeepers k (Some c.perform-ended.result.keeper) (λ before after. (content before ≡ Some []) × (Rose (faults before) (faults after) → ⊥))) there calm) e.entries e.cause
 
 pub returns-clause-complete_stir : goal.returns-clause-complete_stir
 returns-clause-complete_stir g c = λ seed steps are calm writing.
-    let e = c.run_words.ensures in
+    let e = c.perform-ended.ensures in
     let content = g.K.Keeper.content in
     let faults = g.K.Keeper.faults in
-    stir_ends_well content faults (Rose (g.O.Sink.faults c.args.outside.now.sink) (g.O.Sink.faults c.run_words.new.outside.sink)) c.run_words.result c.args.outside.now.keeper c.run_words.new.outside.keeper
-    (λ before after. IsSummaryOf seed steps (faults before) (kept_by content faults after)) (g.O.Sink.written c.args.outside.now.sink) (g.O.Sink.written c.run_words.new.outside.sink) writing calm (e.stir seed steps are) e.cause
+    let there = sym c.take.ensures.value ∙ c.unwrap-keeper.ensures in
+    let is = one_command c.args.words.now c.in-Some.command (Stir seed steps) c.in-Some.ensures are in
+    stir_ends_well content faults (Rose (g.O.Sink.faults c.args.outside.now.sink) (g.O.Sink.faults c.perform-ended.new.sink)) c.perform-ended.result.status (Some c.unwrap-keeper.result) (Some c.perform-ended.result.keeper)
+    (λ before after. IsSummaryOf seed steps (faults before) (kept_by content faults after)) (g.O.Sink.written c.args.outside.now.sink) (g.O.Sink.written c.perform-ended.new.sink) writing
+    (subst (λ k. OfKeepers k (Some c.perform-ended.result.keeper) (λ before after. (content before ≡ Some []) × (Rose (faults before) (faults after) → ⊥))) there calm) (e.stirs seed steps is) e.cause

@@ -1,4 +1,4 @@
-use Rattle.std.proofs.Common.{◌≤◌, sym, subst, ap, ◌∙◌, arith}
+use Rattle.std.proofs.Common.{◌≤◌, subst, ap, ◌∙◌, arith}
 use Rattle.revision_keeper.specs.Causes.{HasFault}
 use Rattle.revision_keeper.specs.Keeper.{IsLength}
 use Rattle.drill_script.specs.ReadScript.{lines_of}

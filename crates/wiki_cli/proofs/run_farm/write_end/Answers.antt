@@ -1,5 +1,4 @@
-use Rattle.std.proofs.Common.{sym, subst, ◌∙◌}
-use Rattle.wiki_model.specs.Report.{end_line}
+use Rattle.std.proofs.Common.{subst, ◌∙◌}
 use Rattle.wiki_cli.specs.RunFarm.{WritesLast}
 use Rattle.wiki_cli.proofs.Texts.{text_last}
 use Rattle.wiki_cli.proofs.run_farm.write_end.Goals as goal

@@ -1,4 +1,4 @@
-use Rattle.std.proofs.Common.{sym, subst, ◌∙◌}
+use Rattle.std.proofs.Common.{◌∙◌}
 use Rattle.wiki_cli.proofs.Texts.{text_counts}
 use Rattle.wiki_cli.proofs.run_farm.write_summary.Goals as goal
 

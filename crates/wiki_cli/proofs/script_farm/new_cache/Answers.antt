@@ -1,4 +1,4 @@
-use Rattle.std.proofs.Common.{arith, ◌≤◌}
+use Rattle.std.proofs.Common.{arith}
 use Rattle.slot_cache.specs.AsModel.{map_of}
 use Rattle.wiki_cli.specs.Ends.{together}
 use Rattle.script_runner.proofs.Opened.{held_some, held_short}

@@ -1,0 +1,11 @@
+pub mod AtMostOnce
+pub mod ClapWalk
+pub mod KeptRanges
+pub mod LayoutExamples
+pub mod NotUtf8
+pub mod OptionTurns
+pub mod OptionWords
+pub mod ParsedNumbers
+pub mod Prefixes
+pub mod Settings
+pub mod Weights

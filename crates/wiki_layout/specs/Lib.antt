@@ -1,0 +1,5 @@
+pub mod AsModel
+pub mod ClapOptions
+pub mod Layout
+pub mod Options
+pub mod ReadLayout
