@@ -123,7 +123,7 @@ fn a_refused_head_gets_the_length_and_no_body(rt: HostRuntime) -> Result<(), Fai
     Ok(())
 }
 
-// A form whose text has so many characters.
+// A form whose text has `length` characters.
 fn long_form(alloc: Global, length: usize) -> Result<String, Fail> {
     let text = "a".repeat(alloc, length)?;
     Ok(format!(in alloc; "title=A&base=0&token=k1&text={text}")?)

@@ -3,7 +3,7 @@ use crate::setting::word;
 use std::alloc::Global;
 use std::test::Fail;
 
-// A head with so many fields.
+// A head with `count` fields.
 fn with_fields(alloc: Global, count: usize) -> Result<String, Fail> {
     let fields = "a: b\r\n".repeat(alloc, count)?;
     Ok(format!(in alloc; "GET /wiki/A HTTP/1.0\r\n{fields}\r\n")?)
@@ -20,7 +20,7 @@ fn a_head_has_64_fields_and_no_more(rt: HostRuntime) -> Result<(), Fail> {
     Ok(())
 }
 
-// A head of so many bytes, 29 of them besides the value.
+// A head of `length` bytes, 29 of them besides the value.
 fn with_bytes(alloc: Global, length: usize) -> Result<String, Fail> {
     let value = "b".repeat(alloc, length.saturating_sub(29))?;
     Ok(format!(in alloc; "GET /wiki/A HTTP/1.0\r\na: {value}\r\n\r\n")?)

@@ -42,7 +42,7 @@ pub(crate) fn read_more<X: Source>(conn: &mut X, kept: &mut Vec<u8>) -> More
     More::Some
 }
 
-/// Whether as many bytes came.
+/// How the reading of a number of bytes ended.
 #[derive(Clone, Copy, Debug, PartialEq, Eq)]
 pub enum FillEnd {
     Full,
@@ -51,7 +51,7 @@ pub enum FillEnd {
     Memory,
 }
 
-/// Reads until so many bytes are kept, or the input ends.
+/// Reads until `wanted` bytes are kept, or the input ends.
 #[tactic(auto, using(crate::proofs::Inputs::grows_start, crate::proofs::Inputs::grows_then))]
 pub(crate) fn fill<X: Source>(conn: &mut X, kept: &mut Vec<u8>, wanted: usize) -> FillEnd
     ensures grows { result ≢ FillEnd.Failed → result ≢ FillEnd.Memory

@@ -131,7 +131,7 @@ fn read_after_head<X: Source>(
     }
 }
 
-// The body of so many bytes, and what the head asks for with it.
+// The body of `count` bytes, and what the head asks for with it.
 fn read_body<X: Source>(
     alloc: Global,
     conn: &mut X,

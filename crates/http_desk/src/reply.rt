@@ -32,7 +32,7 @@ pub enum Status {
     NotImplemented,
     /// 502: the store failed.
     BadGateway,
-    /// 503: the region lags behind the client.
+    /// 503: the region has not reached what the client needs.
     Unavailable,
     /// 507: out of memory.
     NoStorage,

@@ -8,7 +8,7 @@ use farm_base::bytes::{self, DIGITS_MAX};
 use std::alloc::Global;
 use std::str;
 
-/// The number that 1 to so many digits write; any other bytes are none.
+/// The number that 1 to `most` digits write; any other bytes are none.
 pub(crate) fn number_in(text: &[u8], most: usize) -> Option<u64>
     requires { most ≤ DIGITS_MAX }
     ensures { result ≡ (if are_digits most text.now then Some (number_in text.now) else None) }

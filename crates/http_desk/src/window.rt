@@ -48,7 +48,7 @@ fn is_full(length: usize, full: bool) -> bool
     HEAD_MAX <= length || full
 }
 
-// The empty lines at the start, and after them so many lines.
+// The empty lines at the start, and after them `count` lines.
 #[tactic(auto, using(crate::proofs::Windows::skipped_lines, crate::proofs::Windows::take_both))]
 fn first_lines(bytes: &[u8], count: usize) -> Extent
     ensures within { result.length ≤ length bytes.now }
@@ -77,7 +77,7 @@ fn is_end(byte: u8) -> bool
     byte == b'\r' || byte == b'\n'
 }
 
-// So many lines, or all bytes.
+// The first `count` lines, or all bytes.
 #[tactic(auto, using(crate::proofs::Windows::passed_turn, crate::proofs::Windows::passed_none, crate::proofs::Windows::passed_all, crate::proofs::Windows::lines_wanting))]
 fn lines_of(bytes: &[u8], count: usize) -> Extent
     ensures within { result.length ≤ length bytes.now }
