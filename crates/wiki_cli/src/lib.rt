@@ -12,7 +12,7 @@
 //!
 //! ```text
 //! run(["drill"], ..)            reads a script, writes its report
-//! run(["stir", "7", "0"], ..)   writes "stir steps=0 entries=0 saved=0 ok=0 hit=0 interim=0 no-page=0 lag=0\n"
+//! run(["stir", "7", "0"], ..)   makes a script of no step, writes one line in which each count is 0
 //! run(["drill", "now"], ..)     Status::Usage, and the usage line
 //! ```
 #![tactic(auto)]
