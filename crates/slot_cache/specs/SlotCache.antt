@@ -4,7 +4,7 @@ use Rattle.std.specs.Global.{Box}
 use Rattle.wiki_model.specs.declared.Put.{Put}
 use Rattle.wiki_model.specs.Titles.{Title}
 use Rattle.wan_value.specs.declared.Value.{Value}
-use Rattle.wan_cache.specs.MapCache.{hold_off_max}
+use Rattle.wiki_model.specs.Limits.{hold_off_max}
 use Rattle.slot_cache.specs.declared.slot_row.SlotRow.{SlotRow}
 use Rattle.slot_cache.specs.Slots.{slot_of}
 use Rattle.slot_cache.specs.SlotRow.{Stores}

@@ -1,6 +1,6 @@
 // A region's cache of fixed slots.
 ghost use Rattle.std.specs.Prelude.{◌≡◌, ◌≢◌, ◌<◌, ◌≤◌, ◌+◌, ℕ, length, slice_index, slice_set, max, false, IfOk, replicate};
-ghost use Rattle.wiki_model.specs.Limits.{greatest_moment};
+ghost use Rattle.wiki_model.specs.Limits.{greatest_moment, hold_off_max, slots_min, slots_max};
 ghost use Rattle.wiki_model.specs.Cache.{IsEmptyCache, Puts, Purges, Touches};
 ghost use Rattle.wan_value.specs.AsModel.{value_of, ask_of};
 ghost use Rattle.wan_cache.specs.Rules.{IsFound, found_by, shown, placed};
@@ -74,10 +74,10 @@ impl<P: Drop> SlotCache<P> {
     /// An empty cache of this many slots, `SLOTS_MIN` to `SLOTS_MAX`, whose purges hold off for this many
     /// milliseconds, 1 to `HOLD_OFF_MAX`. All memory that the cache ever needs is taken here: about 400 bytes a slot.
     pub fn new(alloc: Global, slots: u32, hold_off: u64) -> Result<Self, Memory>
-        requires some { SLOTS_MIN ≤ slots }
-        requires few { slots ≤ SLOTS_MAX }
+        requires some { slots_min ≤ slots }
+        requires few { slots ≤ slots_max }
         requires holds { 0 < hold_off }
-        requires short { hold_off ≤ HOLD_OFF_MAX }
+        requires short { hold_off ≤ hold_off_max }
         ensures empty { IfOk result (λ c. IsEmptyCache (map_of c)) }
         ensures hold_off { IfOk result (λ c. (map_of c).hold_off ≡ hold_off) }
         ensures together { IfOk result (λ c. (map_of c).together ≡ same_slot slots) }
