@@ -6,10 +6,11 @@ ghost use Rattle.wan_value.specs.AsModel.{value_of, ask_of};
 ghost use Rattle.wan_cache.specs.Rules.{IsFound, found_by, shown, placed};
 ghost use Rattle.slot_cache.specs.Slots.{same_slot};
 ghost use Rattle.slot_cache.specs.SlotRow.{main_for, interim_for};
-ghost use Rattle.slot_cache.specs.SlotCache.{row_in, AreEmpty, StoresIn, DropsIn, KeepsOthers, HoldsSlot, KeepsAll};
+ghost use Rattle.slot_cache.specs.SlotCache.{state_of, IsKept, row_in, AreEmpty, StoresIn, DropsIn, KeepsOthers, HoldsSlot, KeepsAll};
 ghost use Rattle.slot_cache.specs.AsModel.{map_of};
 
 use crate::slot_number::slot_of;
+use crate::slot_parts::SlotParts;
 use crate::slot_row::SlotRow;
 use farm_base::Memory;
 use std::alloc::Global;
@@ -92,6 +93,38 @@ impl<P: Drop> SlotCache<P> {
             greatest: Moment(0),
             hold_off,
         })
+    }
+
+    /// Takes the cache apart. It takes no memory.
+    pub fn into_parts(self) -> SlotParts<P>
+        ensures state { state_of result ≡ self }
+        ensures kept { IsKept (state_of result) }
+    {
+        SlotParts {
+            slots: self.slots,
+            floors: self.floors,
+            rows: self.rows,
+            template_check: self.template_check,
+            message_check: self.message_check,
+            greatest: self.greatest,
+            hold_off: self.hold_off,
+        }
+    }
+
+    /// The cache of these parts. It takes no memory.
+    pub fn from_parts(parts: SlotParts<P>) -> Self
+        requires kept { IsKept (state_of parts) }
+        ensures state { result ≡ state_of parts }
+    {
+        SlotCache {
+            slots: parts.slots,
+            floors: parts.floors,
+            rows: parts.rows,
+            template_check: parts.template_check,
+            message_check: parts.message_check,
+            greatest: parts.greatest,
+            hold_off: parts.hold_off,
+        }
     }
 }
 
