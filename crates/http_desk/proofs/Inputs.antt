@@ -10,10 +10,11 @@ use Rattle.wiki_model.specs.Bytes.{Bytes}
 use Rattle.wiki_model.specs.Asking.{HeadTooLarge, NoHead, Fault, Call}
 use Rattle.http_desk.specs.Heads.{Head, said_at, said_by, head_fault, body_length, is_head_method}
 use Rattle.http_desk.specs.Calls.{call_of}
-use Rattle.http_desk.specs.Incoming.{window, is_full, HasHead, IsOpen, IsHeadIn, Grows, Incoming, Refused, Closed, Cut, closing, incoming, ReadsBody, ReadsAfter, Reads, IsRead}
+use Rattle.http_head.specs.Input.{window, is_full, HasHead, IsOpen, IsHeadIn}
+use Rattle.http_desk.specs.Incoming.{Grows, Incoming, Refused, Closed, Cut, closing, incoming, ReadsBody, ReadsAfter, Reads, IsRead}
 use Rattle.std.specs.Prelude.{IfSome}
 use Rattle.http_desk.specs.AsModel.{IsShown}
-use Rattle.http_desk.proofs.Heads.{looks_at}
+use Rattle.http_head.proofs.Heads.{looks_at, never_more}
 
 consumes_then : (a b c : Option Bytes) (xs ys : Bytes) → Consumes a b xs → Consumes b c ys → Consumes a c (xs ++ ys)
 consumes_then None b c xs ys p q = tt
@@ -66,9 +67,6 @@ pub reads_large : (linked : Bool) (k : Bytes) (l : Option Bytes) (k1 : Bytes) (l
 unfolding window is_full
 reads_large linked k l k1 l1 p full opens = reads_at linked k l k1 l1 k1 (Refused (closing HeadTooLarge false)) p
     (λ s is. inr (inr (inl (refl, ((looks_at k1 s).stays full, subst IsOpen (sym ((looks_at k1 s).same full)) opens)))))
-
-pub never_more : (a b : Bytes) → NeverHasRequest a → NeverHasRequest (a ++ b)
-never_more a b never = λ more h rest reads. never (b ++ more) h rest (reads.0, sym (append_assoc a b more) ∙ reads.1)
 
 pub reads_never : (linked : Bool) (k : Bytes) (l : Option Bytes) (k1 : Bytes) (l1 : Option Bytes) → Grows k l k1 l1 → NeverHasRequest (window k1) → IsRead linked k l k1 l1 (Refused (closing NoHead false))
 unfolding window

@@ -1,5 +1,6 @@
 use Rattle.std.proofs.Common.{◌≡◌, ◌≤◌, ◌-◌, length}
-use Rattle.http_desk.specs.Incoming.{Grows, head_limit}
+use Rattle.http_head.specs.Input.{head_limit}
+use Rattle.http_desk.specs.Incoming.{Grows}
 use Rattle.http_desk.proofs.read.read_head.Given as goal
 
 abbrev pub invariant-reads : goal.invariant-reads
