@@ -1,3 +1,4 @@
+pub mod Bytes
 pub mod Chains
 pub mod Places
 pub mod Digits

@@ -576,6 +576,7 @@ impl<K: Keeper, S: RegionStore<Page>> Farm<K, S> {
         self.last_beat
     }
 
+    /// The plan by which the farm was opened.
     pub fn plan(&self) -> &FarmPlan
         ensures { result.now ≡ self.now.plan }
     {
