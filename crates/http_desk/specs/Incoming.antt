@@ -52,7 +52,7 @@ abbrev pub IsRead : (linked : Bool) → (kept_before : Bytes) → (left_before :
     → (left_after : Option Bytes) → Incoming → Type 0
 IsRead linked kept_before (Some left_before) kept_after (Some left_after) got =
     Reads linked (kept_before ++ left_before) got (kept_after ++ left_after)
-IsRead linked kept_before (Some left_before) kept_after None got = Unit {0}
+IsRead linked kept_before (Some left_before) kept_after None got = ⊥
 IsRead linked kept_before None kept_after left_after got = Unit {0}
 
 -- The parts of one read
