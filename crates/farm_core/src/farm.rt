@@ -12,7 +12,7 @@ use crate::lend_cache::{lend_cache, take_cache};
 use crate::open_farm::start;
 use commit_feed::Entry;
 use farm_base::{Moment, Readings, Region};
-use farm_steps::{Requests, is_open, moment_of, moments_at};
+use farm_steps::{EditTerm, Requests, is_open, moment_of, moments_at};
 use page_render::Page;
 use purge_relay::{Body, Ledger, Message, Receipt};
 use region_state::{Answer, Asked, FarmPlan, RegionState};
@@ -229,8 +229,10 @@ impl<K: Keeper, S: RegionStore<Page>> Farm<K, S> {
             &mut self.ledger,
             &mut self.home,
             &mut self.requests,
-            self.moments.home,
-            commit_delay(&self.plan),
+            EditTerm {
+                now: self.moments.home,
+                delay: commit_delay(&self.plan),
+            },
             id,
         )
     }

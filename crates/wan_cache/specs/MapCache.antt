@@ -3,6 +3,7 @@ use Rattle.std.specs.Prelude.{ℕ, ◌≡◌, ◌≢◌, ◌⊎◌, ◌+◌, ◌
 use Rattle.std.specs.BTreeMap.{BTreeMap, get, is_at}
 use Rattle.std.specs.Map.{lookup}
 use Rattle.wiki_titles.specs.Order.{bytes_cmp}
+use Rattle.wiki_model.specs.Limits.{hold_off_max}
 use Rattle.wiki_model.specs.Titles.{Title}
 use Rattle.wiki_model.specs.declared.Put.{Put}
 use Rattle.wiki_model.specs.declared.Put.TheVariants.{Main, Interim, Held, Busy, Memory}
@@ -24,10 +25,6 @@ pub record MapState (P : Type 0) : Type 0 where
   pub message_check : ℕ
   pub greatest : ℕ
   pub hold_off : ℕ
-
--- the longest hold-off, in milliseconds, as HOLD_OFF_MAX
-abbrev pub hold_off_max : ℕ
-hold_off_max = 180_000
 
 abbrev pub row_in : {P : Type 0} → List (Title × CacheRow P) → Title → Option (CacheRow P)
 row_in rows key = lookup (is_at (bytes_cmp key)) rows

@@ -3,6 +3,7 @@
 use Rattle.std.specs.Prelude.{◌≡◌, ℕ, ◌⊎◌, ◌≤◌, Bool, List, [], ◌++◌, length, reverse, Option, None, Some}
 use Rattle.wiki_model.specs.declared.Region.{Region}
 use Rattle.wiki_model.specs.Bytes.{Bytes}
+use Rattle.wiki_model.specs.Limits.{script_slots}
 use Rattle.wiki_model.specs.Titles.{Title}
 use Rattle.wiki_model.specs.History.{Entry}
 use Rattle.wiki_model.specs.World.{World}
@@ -27,10 +28,6 @@ exit_number status.WriteFault = 5
 exit_number status.StoreFault = 6
 exit_number status.Memory = 7
 exit_number (status.NotEmpty n) = 9
-
--- how many slots each cache of a script's farm has
-abbrev pub script_slots : ℕ
-script_slots = 65_536
 
 -- in the caches of the program two titles are together if they have one slot
 abbrev pub together : Region → Title → Title → Bool
