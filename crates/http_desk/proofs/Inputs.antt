@@ -43,7 +43,7 @@ input_is k s k1 s1 p = ap (λ z. k ++ z) p.taken ∙ (sym (append_assoc k p.more
 reads_at : (linked : Bool) (k : Bytes) (l : Option Bytes) (k1 : Bytes) (l1 : Option Bytes) (k2 : Bytes) (got : Incoming)
     → Grows k l k1 l1 → ((s : Bytes) → l1 ≡ Some s → Reads linked (k1 ++ s) got (k2 ++ s)) → IsRead linked k l k2 l1 got
 reads_at linked k None k1 l1 k2 got p f = tt
-reads_at linked k (Some s) k1 None k2 got p f = tt
+reads_at linked k (Some s) k1 None k2 got p f = absurd p.taken
 reads_at linked k (Some s) k1 (Some s1) k2 got p f = subst (λ z. Reads linked z got (k2 ++ s1)) (sym (input_is k s k1 s1 p)) (f s1 refl)
 
 end_is : (l : Option Bytes) (s : Bytes) → IsAtEnd l → l ≡ Some s → s ≡ []
@@ -76,7 +76,7 @@ reads_never linked k l k1 l1 p never = reads_at linked k l k1 l1 k1 (Refused (cl
 pub reads_then : (linked : Bool) (k : Bytes) (l : Option Bytes) (k1 : Bytes) (l1 : Option Bytes) (k2 : Bytes) (l2 : Option Bytes) (got : Incoming) → Grows k l k1 l1 → IsRead linked k1 l1 k2 l2 got → IsRead linked k l k2 l2 got
 reads_then linked k None k1 l1 k2 l2 got p r = tt
 reads_then linked k (Some s) k1 None k2 l2 got p r = absurd p.taken
-reads_then linked k (Some s) k1 (Some s1) k2 None got p r = tt
+reads_then linked k (Some s) k1 (Some s1) k2 None got p r = absurd r
 reads_then linked k (Some s) k1 (Some s1) k2 (Some s2) got p r = subst (λ z. Reads linked z got (k2 ++ s2)) (sym (input_is k s k1 s1 p)) r
 
 head_more : (k s : Bytes) (h : RequestHead) (n : ℕ) → HasHead k h (drop n k) → HasHead (k ++ s) h (drop n k ++ s)
