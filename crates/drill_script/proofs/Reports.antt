@@ -4,7 +4,7 @@ use Rattle.std.specs.Prelude.{codes, decimal}
 use Rattle.std.specs.Arc.{arc_value}
 use Rattle.wiki_model.specs.Bytes.{Bytes}
 use Rattle.wiki_model.specs.Report.{origin_text, by_text, answer_text, page_of, report_line, end_line}
-use Rattle.farm_base.proofs.Bytes.{right_left}
+use Rattle.farm_base.proofs.Pieces.{right_left}
 use Rattle.region_state.specs.AsModel.{answer_of}
 use Rattle.region_state.specs.declared.answer.Answer.{Answer}
 use Rattle.region_state.specs.declared.answer.Answer.TheVariants as answers

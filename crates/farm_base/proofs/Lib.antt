@@ -1,4 +1,4 @@
-pub mod Bytes
+pub mod Pieces
 pub mod Chains
 pub mod Places
 pub mod Digits

@@ -1,5 +1,5 @@
 -- What the values of this crate stand for in the definitions.
-use Rattle.std.specs.Prelude.{◌≡◌, ℕ, true, false, Result, Ok, Err, Option, Some, None, List, map, string_bytes, String}
+use Rattle.std.specs.Prelude.{◌≡◌, ℕ, true, false, Result, Ok, Err, Option, Some, None, List, map, string_bytes}
 use Rattle.std.specs.List.{list_all}
 use Rattle.wiki_model.specs.Bytes.{Bytes}
 use Rattle.wiki_model.specs.Titles.{title_of}

@@ -47,7 +47,7 @@ Reads linked input got rest =
     × ReadsAfter linked (said_by h) (head_fault (said_by h)) after got rest)
 
 -- One read over a source that exposes its bytes: what was kept from before and what was left of the source begin with
--- this, and the same two afterwards are the rest.
+-- this, and the same two afterwards are the rest. A source that exposed its bytes goes on exposing them.
 abbrev pub IsRead : (linked : Bool) → (kept_before : Bytes) → (left_before : Option Bytes) → (kept_after : Bytes)
     → (left_after : Option Bytes) → Incoming → Type 0
 IsRead linked kept_before (Some left_before) kept_after (Some left_after) got =

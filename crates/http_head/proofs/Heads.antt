@@ -8,20 +8,21 @@ use Rattle.httparse.specs.Grammar.{RequestHead, NeverHasRequest, print_request}
 use Rattle.httparse.specs.Spans.{IsRequestAt, IsRequestOf, IsRequestWithin}
 use Rattle.wiki_model.specs.Bytes.{Bytes}
 use Rattle.http_head.specs.Window.{later_feeds}
-use Rattle.http_head.specs.Input.{head_limit, line_limit, window, is_full, IsOpen, IsHeadIn}
+use Rattle.wiki_model.specs.Limits.{head_max}
+use Rattle.http_head.specs.Input.{line_limit, window, is_full, IsOpen, IsHeadIn}
 use Rattle.http_head.proofs.Windows.{Looks, looks, window_short, not_long}
 use Rattle.http_head.proofs.Counts.{window_few, few_fields}
 
 pub few_lines : (kept : Bytes) → later_feeds (window kept) ≤ line_limit
 unfolding window
-few_lines kept = window_few head_limit line_limit kept
+few_lines kept = window_few head_max line_limit kept
 
-pub short : (kept : Bytes) → length (window kept) ≤ head_limit
+pub short : (kept : Bytes) → length (window kept) ≤ head_max
 unfolding window
-short kept = window_short head_limit line_limit kept
+short kept = window_short head_max line_limit kept
 
-pub looks_at : (a b : Bytes) → Looks head_limit line_limit a b
-looks_at a b = looks head_limit line_limit a b
+pub looks_at : (a b : Bytes) → Looks head_max line_limit a b
+looks_at a b = looks head_max line_limit a b
 
 pub all_seen : (kept : Bytes) → is_full kept ≡ false → window kept ≡ kept
 unfolding window is_full
@@ -43,7 +44,7 @@ head_kept kept prefix seen headers r within taken looked inside (h, at) =
     let whole : prefix ++ drop seen kept ≡ kept = ap (λ z. z ++ drop seen kept) taken ∙ take-append-drop seen kept in
     let reads : kept ≡ p ++ drop (length p) kept = subst (λ z. z ≡ p ++ drop (length p) z) whole (prefix_reads p (drop r.len prefix) prefix (drop seen kept) e) in
     let few : length h.fields + 2 ≤ line_limit = few_fields line_limit prefix h (drop r.len prefix) (subst (λ z. later_feeds z ≤ line_limit) (sym looked) (few_lines kept)) at.reads in
-    let small : length prefix ≤ head_limit = subst (λ z. length z ≤ head_limit) (sym looked) (short kept) in
+    let small : length prefix ≤ head_max = subst (λ z. length z ≤ head_max) (sym looked) (short kept) in
     let parts : length prefix ≡ length p + length (drop r.len prefix) = ap length e ∙ length-append p (drop r.len prefix) in (
       h,
       record {
@@ -58,9 +59,9 @@ head_kept kept prefix seen headers r within taken looked inside (h, at) =
       },
     )
 
-pub unfilled : (kept : Bytes) → is_full kept ≡ false → length kept < head_limit
+pub unfilled : (kept : Bytes) → is_full kept ≡ false → length kept < head_max
 unfolding is_full
-unfilled kept e = not_long head_limit line_limit kept e
+unfilled kept e = not_long head_max line_limit kept e
 
 -- no continuation of longer bytes is one that shorter bytes did not have
 pub never_more : (a b : Bytes) → NeverHasRequest a → NeverHasRequest (a ++ b)

@@ -11,7 +11,8 @@ use Rattle.httparse.proofs.GrammarLemmas.{print_request-append}
 use Rattle.wiki_model.specs.Bytes.{Bytes}
 use Rattle.wiki_model.specs.Asking as asking
 use Rattle.http_head.specs.Window.{feeds, later_feeds, is_end, lines_of, first_lines, window_of}
-use Rattle.http_head.specs.Input.{window, head_limit, line_limit, HasHead}
+use Rattle.wiki_model.specs.Limits.{head_max}
+use Rattle.http_head.specs.Input.{window, line_limit, HasHead}
 use Rattle.http_head.specs.Laws.{HeadsAreFound}
 use Rattle.http_head.proofs.Counts.{end_feeds, blank_feeds, method_feeds}
 
@@ -158,14 +159,14 @@ head_in_window input h rest x = by (head_ends h)
         let same : later_feeds (print_request h ++ []) ≡ later_feeds (print_request h) = ap later_feeds (append-nil (print_request h)) in
         omega (arith, e, same)
 
-    by : (q : Bytes) × (print_request h ≡ Line q) → (y : Bytes) × ReadsRequest (window_of head_limit line_limit input) h y
+    by : (q : Bytes) × (print_request h ≡ Line q) → (y : Bytes) × ReadsRequest (window_of head_max line_limit input) h y
     by (q, e) =
-        let small : length (Line q) ≤ head_limit = subst (λ z. length z ≤ head_limit) e x.small in
+        let small : length (Line q) ≤ head_max = subst (λ z. length z ≤ head_max) e x.small in
         let below : later_feeds q < later_feeds (Line q) = one_later q (subst (λ z. 0 < later_feeds z) e some) in
         let within : later_feeds (Line q) ≤ line_limit = subst (λ z. later_feeds z ≤ line_limit) e lines in
-        let held = window_holds head_limit line_limit q rest small (omega (arith, below, within)) in
+        let held = window_holds head_max line_limit q rest small (omega (arith, below, within)) in
         let is_input : Line q ++ rest ≡ input = ap (λ z. z ++ rest) (sym e) ∙ sym x.reads.1 in
-        (held.0, (x.reads.0, subst (λ z. window_of head_limit line_limit z ≡ Line q ++ held.0) is_input held.1 ∙ ap (λ z. z ++ held.0) (sym e)))
+        (held.0, (x.reads.0, subst (λ z. window_of head_max line_limit z ≡ Line q ++ held.0) is_input held.1 ∙ ap (λ z. z ++ held.0) (sym e)))
 
 pub heads_are_found : HeadsAreFound
 heads_are_found input h rest asking.HeadTooLarge x shown = let found = head_in_window input h rest x in shown.1.no_head h found.0 found.1

@@ -4,7 +4,8 @@ use Rattle.httparse.specs.Grammar.{RequestHead, NeverHasRequest, EndsInTarget}
 use Rattle.wiki_model.specs.Bytes.{Bytes}
 use Rattle.wiki_model.specs.Asking.{Fault, HeadTooLarge, NoHead}
 use Rattle.http_head.specs.Window.{later_feeds}
-use Rattle.http_head.specs.Input.{head_limit, line_limit, window, is_full, HasHead, Shows}
+use Rattle.wiki_model.specs.Limits.{head_max}
+use Rattle.http_head.specs.Input.{line_limit, window, is_full, HasHead, Shows}
 
 -- an input that begins with a head within the limits is not refused as one without a head
 abbrev pub HeadsAreFound : Type 0
@@ -27,4 +28,4 @@ MalformedLinesAreSeen =
 -- no more is looked at than a head may have
 abbrev pub WindowsAreLimited : Type 0
 WindowsAreLimited =
-    (bytes : Bytes) → (length (window bytes) ≤ head_limit) × (later_feeds (window bytes) ≤ line_limit)
+    (bytes : Bytes) → (length (window bytes) ≤ head_max) × (later_feeds (window bytes) ≤ line_limit)

@@ -2,7 +2,8 @@
 ghost use Rattle.std.specs.Prelude.{◌≡◌, ◌≤◌, ◌<◌, true, false, length};
 ghost use Rattle.httparse.specs.Grammar.{RequestHead, NeverHasRequest};
 ghost use Rattle.httparse.specs.Spans.{IsRequestOf, IsRequestWithin};
-ghost use Rattle.http_head.specs.Input.{window, is_full, head_limit, line_limit, IsOpen, IsHeadIn};
+ghost use Rattle.wiki_model.specs.Limits.{head_max};
+ghost use Rattle.http_head.specs.Input.{window, is_full, line_limit, IsOpen, IsHeadIn};
 ghost use Rattle.http_head.specs.Window.{later_feeds};
 
 use crate::window::{FIELDS_MAX, window};
@@ -41,7 +42,7 @@ pub fn find_head(kept: &[u8], fields: &mut [HeaderSpan; ROOM]) -> KeptBytes
     ensures whole { (at : HeadPlace) → result ≡ KeptBytes.Whole at
         → (h : RequestHead) × IsHeadIn kept.now at.seen fields.new at.spans h }
     ensures open { result ≡ KeptBytes.Open → (is_full kept.now ≡ false) × IsOpen kept.now }
-    ensures short { result ≡ KeptBytes.Open → length kept.now < head_limit }
+    ensures short { result ≡ KeptBytes.Open → length kept.now < head_max }
     ensures full { result ≡ KeptBytes.Full → (is_full kept.now ≡ true) × IsOpen (window kept.now) }
     ensures never { result ≡ KeptBytes.Never → NeverHasRequest (window kept.now) }
 {

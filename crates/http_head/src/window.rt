@@ -1,7 +1,8 @@
 // How much of an input is looked at for a head: the window.
 ghost use Rattle.std.specs.Prelude.{◌≡◌, ◌≤◌, ◌<◌, ◌||◌, length, take, nat_le};
 ghost use Rattle.http_head.specs.Window.{is_end, lines_of, has_lines, left_after, first_lines, has_first_lines};
-ghost use Rattle.http_head.specs.Input.{window, is_full, head_limit};
+ghost use Rattle.wiki_model.specs.Limits.{head_max};
+ghost use Rattle.http_head.specs.Input.{window, is_full};
 
 /// A head has at most this many bytes, with the empty lines before it and the one at its end.
 pub const HEAD_MAX: usize = 16_384; // bytes
@@ -36,14 +37,14 @@ pub(crate) fn window(bytes: &[u8]) -> Extent
 
 #[tactic(auto, using(crate::proofs::Windows::limit_take))]
 fn limited(bytes: &[u8]) -> &[u8]
-    ensures { result.now ≡ take head_limit bytes.now }
+    ensures { result.now ≡ take head_max bytes.now }
 {
     let (prefix, _) = bytes.split_at(bytes.len().min(HEAD_MAX));
     prefix
 }
 
 fn is_full(length: usize, full: bool) -> bool
-    ensures { result ≡ (nat_le head_limit length || full) }
+    ensures { result ≡ (nat_le head_max length || full) }
 {
     HEAD_MAX <= length || full
 }

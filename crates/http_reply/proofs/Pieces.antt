@@ -2,7 +2,7 @@
 use Rattle.std.proofs.Common.{◌≡◌, ℕ, Result, Ok, Err, Bool, true, false, List, [], ◌∷◌, ◌++◌, refl, sym, ap, ◌∙◌, append_assoc}
 use Rattle.std.specs.Prelude.{codes, decimal, if◌then◌else◌, IfOk, string_bytes, String}
 use Rattle.wiki_model.specs.Bytes.{Bytes}
-use Rattle.farm_base.proofs.Bytes.{right_left}
+use Rattle.farm_base.proofs.Pieces.{right_left}
 use Rattle.http_reply.specs.Reply.{phrase, end_of_line, field_line, content_type, first_fields, printed_first_fields}
 
 pub first_fields_are : (status : ℕ) (html : Bool) (count : ℕ) → printed_first_fields status (phrase status) (if html then codes "html" else codes "plain") count ≡ first_fields status html count

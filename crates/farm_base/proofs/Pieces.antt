@@ -1,4 +1,4 @@
--- The test of UTF-8 decides; and pieces of a text, put together from the left and from the right, are the same text.
+-- Pieces of a text, put together from the left and from the right, are the same text; and the test of UTF-8 decides.
 use Rattle.std.proofs.Common.{◌≡◌, ℕ, Bool, true, false, List, [], ◌∷◌, ◌++◌, refl, sym, ◌∙◌, append_assoc}
 use Rattle.std.specs.Str.{IsUtf8, is_utf8}
 use Rattle.std.proofs.lemmas.Str.{IsUtf8-from_is_utf8}
