@@ -1,0 +1,120 @@
+// A small farm, and serving bytes on it.
+use drill_script::{Script, read_script};
+use farm_base::{BOUND_MAX, MemClock, MemConn, MemLots, Moment, Readings};
+use farm_core::{Farm, Page};
+use purge_relay::{FarmWire, Wire};
+use revision_keeper::{Keeper, MemKeeper};
+use std::alloc::Global;
+use std::str;
+use std::test::Fail;
+use wan_cache::{MapCache, RegionStore};
+use wiki_serve::{ConnEnd, ServedFarm, serve_conn};
+
+/// The farm of these tests.
+pub type TestFarm = ServedFarm<MemKeeper, MapCache<Page>>;
+
+/// How many entries a replica applies before a request, unless a layout says otherwise.
+const PACE: u32 = 1_000; // entries
+
+/// A farm of the default plan over this keeper, opened at this moment of both regions.
+pub fn farm_over(alloc: Global, keeper: MemKeeper, now: u64) -> Result<TestFarm, Fail> {
+    let Script { plan, .. } = read_script(alloc, b"end\n")?;
+    let mut plan = plan;
+    plan.pace = PACE;
+    let hold_off = plan.bounds.hold_off();
+    let weights = plan.home.weights.as_slice().len().wrapping_sub(1) < 8
+        && plan.west.weights.as_slice().len().wrapping_sub(1) < 8;
+    if !weights || plan.bounds.commit_delay > BOUND_MAX || hold_off == 0 || hold_off > 180_000 {
+        return Err(Fail::new("no plan of a farm"));
+    }
+    let home = MapCache::new(alloc, 65_536, hold_off);
+    let west = MapCache::new(alloc, 65_536, hold_off);
+    match Farm::new(alloc, keeper, plan, home, west, both(now)) {
+        Ok(farm) => Ok(ServedFarm { farm, sent: 0 }),
+        Err(_) => Err(Fail::new("no farm")),
+    }
+}
+
+pub fn small_farm(alloc: Global) -> Result<TestFarm, Fail> {
+    farm_over(alloc, MemKeeper::new(alloc), 5_000)
+}
+
+/// Both clocks read this.
+pub fn both(milliseconds: u64) -> Readings {
+    Readings {
+        home: Moment(milliseconds),
+        west: Moment(milliseconds),
+    }
+}
+
+/// A connection over this input, which moves at most `piece` bytes a call; no call fails.
+pub fn conn_of(alloc: Global, input: &[u8], piece: usize) -> Result<MemConn, Fail> {
+    conn_failing(alloc, input, piece, Vec::new(alloc), Vec::new(alloc))
+}
+
+/// The same, whose reads and writes of these numbers fail.
+pub fn conn_failing(
+    alloc: Global,
+    input: &[u8],
+    piece: usize,
+    reads: Vec<u64>,
+    writes: Vec<u64>,
+) -> Result<MemConn, Fail> {
+    let mut bytes = Vec::new(alloc);
+    bytes.extend_from_slice(input)?;
+    let peer = String::from_str(alloc, "192.0.2.7")?;
+    if piece == 0 {
+        return Err(Fail::new("a call moves one byte at least"));
+    }
+    Ok(MemConn::new(alloc, bytes, peer, piece, reads, writes))
+}
+
+/// Serves the connection at this moment of both regions, with words that are 0.
+pub fn serve_at<K: Keeper, S: RegionStore<Page>, W: Wire>(
+    alloc: Global,
+    served: &mut ServedFarm<K, S>,
+    conn: &mut MemConn,
+    wire: &mut W,
+    now: u64,
+) -> Result<ConnEnd, Fail> {
+    if !served.farm.is_whole() || served.farm.is_open(0) {
+        return Err(Fail::new("the farm is not ready to be served"));
+    }
+    let mut clock = MemClock::new(Vec::new(alloc), both(now));
+    let mut lots = MemLots::new(Vec::new(alloc), 0);
+    Ok(serve_conn(
+        alloc, served, conn, &mut clock, &mut lots, wire,
+    ))
+}
+
+/// What one connection wrote, and how it ended.
+pub struct Talked {
+    pub end: ConnEnd,
+    pub text: String,
+}
+
+/// Serves this input at 5,000 on an empty farm, in calls of any size.
+pub fn talk(alloc: Global, input: &[u8]) -> Result<Talked, Fail> {
+    talk_in_pieces(alloc, input, 65_536)
+}
+
+pub fn talk_in_pieces(alloc: Global, input: &[u8], piece: usize) -> Result<Talked, Fail> {
+    let mut conn = conn_of(alloc, input, piece)?;
+    let end = serve_new(alloc, &mut conn)?;
+    Ok(Talked {
+        end,
+        text: written(alloc, &conn)?,
+    })
+}
+
+/// Serves the connection at 5,000 on an empty farm.
+pub fn serve_new(alloc: Global, conn: &mut MemConn) -> Result<ConnEnd, Fail> {
+    let mut served = small_farm(alloc)?;
+    let mut wire = FarmWire::new(alloc);
+    serve_at(alloc, &mut served, conn, &mut wire, 5_000)
+}
+
+/// What was written over the connection.
+pub fn written(alloc: Global, conn: &MemConn) -> Result<String, Fail> {
+    Ok(String::from_str(alloc, str::from_utf8(conn.written())?)?)
+}

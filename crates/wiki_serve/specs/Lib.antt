@@ -1,0 +1,9 @@
+pub mod Replies
+pub mod Exchanges
+pub mod Callers
+pub mod Services
+pub mod Connections
+pub mod Served
+pub mod Turns
+pub mod Housework
+pub mod AsModel

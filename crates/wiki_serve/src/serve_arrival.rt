@@ -1,0 +1,168 @@
+// What is done for what was read.
+ghost use Rattle.std.specs.Prelude.{◌≡◌, ◌≤◌, None, Some, IfOk, IfSome, option_map};
+ghost use Rattle.wiki_model.specs.World.Asked.{AskedView, AskedEdit};
+ghost use Rattle.edit_core.specs.AsModel.{edit_of};
+ghost use Rattle.region_state.specs.AsModel.{answer_of, view_of};
+ghost use Rattle.farm_core.specs.FarmParts.{IsWhole, SameShape};
+ghost use Rattle.farm_steps.specs.RequestMap.{open_at};
+
+use crate::asked_steps::{make_edit, make_view};
+use crate::callers::{Visit, client_of, live_cookie, moment_for};
+use crate::housework::keep_house;
+use crate::read_arrival::Arrival;
+use crate::replies::location_of;
+use crate::serve_conn::ConnEnd;
+use crate::served_farm::ServedFarm;
+use farm_base::{Clock, Lots, Memory, Readings};
+use farm_core::{Answer, EditAsk, Page, ViewAsk};
+use http_desk::{Call, Request};
+use http_reply::Refusal;
+use purge_relay::Wire;
+use revision_keeper::Keeper;
+use std::alloc::Global;
+use sticky_routes::region_of_host;
+use wan_cache::RegionStore;
+
+/// A request that was answered.
+#[derive(Drop)]
+pub struct Answered {
+    /// Where the page is that was edited; empty for a view.
+    pub location: String,
+    pub answer: Answer,
+    /// Whether the method was `HEAD`.
+    pub head: bool,
+    /// Whether the request asked to close the connection.
+    pub close: bool,
+}
+
+/// What there is to respond.
+#[derive(Drop)]
+pub enum Reaction {
+    /// Nothing: the connection ends like this.
+    Ended(ConnEnd),
+    /// The request was refused.
+    Refused(Refusal),
+    /// The request was answered.
+    Answered(Answered),
+    /// The request was read, and is not served.
+    Unserved { head: bool, close: bool },
+}
+
+/// Does what a request that was read asks for. If it is out of memory before it begins, nothing is done.
+pub(crate) fn serve_arrival<
+    K: Keeper,
+    S: RegionStore<Page>,
+    C: Clock,
+    L: Lots,
+    W: Wire,
+>(
+    alloc: Global,
+    served: &mut ServedFarm<K, S>,
+    clock: &mut C,
+    lots: &mut L,
+    wire: &mut W,
+    arrival: Arrival,
+) -> Reaction
+    requires whole { IsWhole served.old.farm }
+    requires free { open_at served.old.farm.requests 0 ≡ None }
+{
+    match arrival {
+        Arrival::Ended(end) => Reaction::Ended(end),
+        Arrival::Refused(refusal) => Reaction::Refused(refusal),
+        Arrival::Ready(visit) => serve_visit(alloc, served, clock, lots, wire, visit),
+    }
+}
+
+fn serve_visit<K: Keeper, S: RegionStore<Page>, C: Clock, L: Lots, W: Wire>(
+    alloc: Global,
+    served: &mut ServedFarm<K, S>,
+    clock: &mut C,
+    lots: &mut L,
+    wire: &mut W,
+    visit: Visit,
+) -> Reaction
+    requires whole { IsWhole served.old.farm }
+    requires free { open_at served.old.farm.requests 0 ≡ None }
+{
+    let Ok(location) = location_for(alloc, &visit.request.call) else {
+        return Reaction::Ended(ConnEnd::Memory);
+    };
+    let head = visit.request.head;
+    let close = visit.request.close;
+    let at = clock.readings();
+    match serve_call(alloc, served, lots, wire, &at, visit) {
+        Some(answer) => Reaction::Answered(Answered {
+            location,
+            answer,
+            head,
+            close,
+        }),
+        None => Reaction::Unserved { head, close },
+    }
+}
+
+/// Where the page of an edit is; empty for another call. It is made before the first step, so that an edit that is
+/// saved can be answered.
+fn location_for(alloc: Global, call: &Call) -> Result<String, Memory> {
+    match call {
+        Call::Edit { title, .. } => location_of(alloc, title),
+        Call::Page(_) | Call::Batch(_) => Ok(String::new(alloc)),
+    }
+}
+
+/// Keeps the house, and then makes the steps of a page or an edit. A batch gets no answer.
+fn serve_call<K: Keeper, S: RegionStore<Page>, L: Lots, W: Wire>(
+    alloc: Global,
+    served: &mut ServedFarm<K, S>,
+    lots: &mut L,
+    wire: &mut W,
+    at: &Readings,
+    visit: Visit,
+) -> Option<Answer>
+    requires whole { IsWhole served.old.farm }
+    requires free { open_at served.old.farm.requests 0 ≡ None }
+{
+    let now = moment_for(&served.farm, at, &visit.request);
+    let cookie = live_cookie(&visit.request, now);
+    let client = client_of(cookie, visit.stranger);
+    let Request {
+        host,
+        cookies,
+        call,
+        ..
+    } = visit.request;
+    match call {
+        Call::Page(title) => {
+            let ask = ViewAsk {
+                host: region_of_host(&host),
+                client,
+                cookie,
+                use_master: cookies.use_master,
+                word: lots.word(),
+                title,
+            };
+            keep_house(served, at, wire);
+            make_view(alloc, &mut served.farm, at, ask)
+        }
+        Call::Edit {
+            title,
+            base,
+            token,
+            text,
+        } => {
+            let ask = EditAsk {
+                client,
+                token,
+                title,
+                base,
+                text,
+            };
+            keep_house(served, at, wire);
+            make_edit(&mut served.farm, at, ask)
+        }
+        Call::Batch(_) => {
+            keep_house(served, at, wire);
+            None
+        }
+    }
+}
