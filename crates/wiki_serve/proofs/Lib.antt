@@ -1,2 +1,6 @@
 pub mod OneMore
 pub mod ServedLaws
+pub mod Steps
+pub mod Houses
+pub mod Asked
+pub mod Calling

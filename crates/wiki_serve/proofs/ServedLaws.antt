@@ -308,22 +308,3 @@ ends_enough desk a b c conn Stood Stands Later count x on one writes on_still fu
     let so = answered desk a b c conn Stood Stands Later count x on one writes in
     served desk a (record c { conn = conn }) conn Stood Later (on.exchanges ++ x ∷ []) (responses (on.exchanges ++ x ∷ [])) (responses (on.exchanges ++ x ∷ [])) Enough so (record { peer = refl; read_faults = omega arith; write_faults = omega arith }) so.written
       (λ rest e. (none_closes_more on.exchanges x on.may_go_on.0 on_still, longer on.exchanges x count on.number ∙ full, refl)) tt
-
--- Turns
-
-goes_more : (xs ys : List Turn) (v u w : World) → GoesBy v xs u → GoesBy u ys w → GoesBy v (xs ++ ys) w
-goes_more [] ys v u w first second = subst (λ (x : World). GoesBy x ys w) first second
-goes_more (x ∷ xs) ys v u w first second = let (next, one, others) = first in (next, one, goes_more xs ys next u w others second)
-
-pub turns_none : (Stands : Standing) → TurnsBy Stands Stands []
-turns_none Stands start earlier v stood = (v, stood, refl)
-
-pub turns_joined : (Stood Stands Later : Standing) (xs ys : List Turn) → TurnsBy Stood Stands xs → TurnsBy Stands Later ys → TurnsBy Stood Later (xs ++ ys)
-turns_joined Stood Stands Later xs ys first second start earlier v stood =
-    let (u, stands, went) = first start earlier v stood in
-    let (w, later, goes) = second start (reverse xs ++ earlier) u stands in
-    let order : reverse ys ++ (reverse xs ++ earlier) ≡ reverse (xs ++ ys) ++ earlier = sym (ap (λ l. l ++ earlier) (reverse-append xs ys) ∙ append_assoc (reverse ys) (reverse xs) earlier) in
-    (w, subst (λ (l : List Turn). Later start l w) order later, goes_more xs ys v u w went goes)
-
-pub turns_one : (Stood Stands : Standing) (turn : Turn) → ((start : World) (earlier : List Turn) (v : World) → Stood start earlier v → (w : World) × Stands start (turn ∷ earlier) w × Leads v turn w) → TurnsBy Stood Stands (turn ∷ [])
-turns_one Stood Stands turn steps start earlier v stood = let (w, stands, leads) = steps start earlier v stood in (w, stands, (w, leads, refl))

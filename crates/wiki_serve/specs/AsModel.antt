@@ -4,8 +4,8 @@ use Rattle.wiki_model.specs.declared.Readings.{Readings}
 use Rattle.wiki_model.specs.Bytes.{Bytes}
 use Rattle.farm_base.specs.Series.{Series}
 use Rattle.purge_relay.specs.Carried.{Carried}
-use Rattle.wiki_serve.specs.declared.serve_conn.ConnEnd.{ConnEnd}
-use Rattle.wiki_serve.specs.declared.serve_conn.ConnEnd.TheVariants as ended
+use Rattle.wiki_serve.specs.declared.connection.ConnEnd.{ConnEnd}
+use Rattle.wiki_serve.specs.declared.connection.ConnEnd.TheVariants as ended
 use Rattle.wiki_serve.specs.Exchanges.{Heard}
 use Rattle.wiki_serve.specs.Connections.{Conn, End, Closed, CutOff, ReadFault, WriteFault, Ended, Enough, Memory}
 

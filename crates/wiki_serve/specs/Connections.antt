@@ -51,6 +51,15 @@ pub record Conn : Type 0 where
   pub read_faults : ℕ
   pub write_faults : ℕ
 
+abbrev pub conn_seen : (peer : Bytes) → (left written : Option Bytes) → (read_faults write_faults : ℕ) → Conn
+conn_seen peer left written read_faults write_faults = record {
+  peer = peer;
+  left = left;
+  written = written;
+  read_faults = read_faults;
+  write_faults = write_faults;
+}
+
 -- the responses before the last one were written, and of that one so much
 abbrev pub BreaksOff : (exchanges : List (Exchange Service)) → (written : Bytes) → (Bytes → Bytes → Type 0) → Type 0
 BreaksOff exchanges written Of =

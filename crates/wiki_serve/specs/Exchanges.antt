@@ -106,6 +106,10 @@ pub record Heard : Type 0 where
   pub refused : ℕ
   pub empty : ℕ
 
+abbrev pub heard_seen : Option (Series Readings) → Option (Series ℕ) → Option Carried → (refused empty : ℕ) → Heard
+heard_seen clock lots wire refused empty =
+    record { clock = clock; lots = lots; wire = wire; refused = refused; empty = empty }
+
 -- a count that rises so often, and stops at the end of its type
 abbrev pub counted_often : ℕ → (times : ℕ) → ℕ
 counted_often n zero = n

@@ -8,7 +8,8 @@ use Rattle.wiki_model.specs.Bytes.{Bytes}
 use Rattle.wiki_model.specs.Limits.{messages_max}
 use Rattle.wiki_model.specs.History.{Entry}
 use Rattle.wiki_model.specs.Cache.{CacheMap}
-use Rattle.wiki_model.specs.World.{World}
+use Rattle.wiki_model.specs.World.{World, Asked}
+use Rattle.wiki_model.specs.Answers.{Answer}
 use Rattle.wiki_model.specs.Steps.{Step}
 use Rattle.wiki_model.specs.Runs.{Turn}
 use Rattle.wiki_model.specs.Serving.{AllMade, Taken, carries, is_due, is_past, beat_if, Housekeeps}
@@ -23,7 +24,7 @@ use Rattle.farm_core.specs.Agreement.{Agrees}
 use Rattle.farm_core.specs.Runs.{Stands}
 use Rattle.wiki_serve.specs.Exchanges.{with_messages}
 use Rattle.wiki_serve.specs.Services.{numbers_from}
-use Rattle.wiki_serve.specs.Turns.{MakesTurns}
+use Rattle.wiki_serve.specs.Turns.{MakesTurns, MakesAsked}
 
 -- a message as it is told of
 abbrev pub taken_of : Message → Taken
@@ -59,6 +60,7 @@ AreRows rows (number ∷ numbers) (sent ∷ more) = IsRow rows number sent × Ar
 pub record SendsTo (rows : List LedgerRow) (before now : ℕ) (old new : WireSeen) (sent : List Taken) (halted : Bool)
     : Type 0 where
   pub later : before ≤ now
+  pub within : before ≤ length rows → now ≤ length rows
   pub are : AreRows rows (numbers_from (before + 1) (now - before)) sent
   pub carried : new.carried ≡ option_map (with_messages sent []) old.carried
   pub refused : new.refused ≡ counted_if halted old.refused
@@ -149,6 +151,7 @@ pub record DoesHousework {K S : Type 0} (content : K → Option (List Entry)) (f
   pub turns : List Turn
   pub keeps : KeepsHouse content faults cache_of old new at old.plan.pace taken turns
   pub later : sent_old ≤ sent_new
+  pub within : sent_old ≤ length old.ledger.rows → sent_new ≤ length old.ledger.rows
   pub are : AreRows old.ledger.rows (numbers_from (sent_old + 1) (sent_new - sent_old)) sent
   pub all : halted ≡ false → length old.ledger.rows ≤ sent_new
   pub left : halted ≡ true → sent_new < length old.ledger.rows
@@ -160,3 +163,19 @@ pub record DoesHousework {K S : Type 0} (content : K → Option (List Entry)) (f
   pub closed : open_at old.requests 0 ≡ None → open_at new.requests 0 ≡ None
   pub shape : SameShape old new
   pub counts : faults old.keeper ≤ faults new.keeper
+
+-- A whole request was made after its housekeeping.
+pub record ServesAsked {K S : Type 0} (content : K → Option (List Entry)) (faults : K → ℕ)
+    (cache_of : S → CacheMap Bytes) (old new : FarmParts K S) (sent_old sent_new : ℕ) (at : Readings)
+    (before now : WireSeen) (asked : Asked) (answer : Answer) : Type 0 where
+  pub middle : FarmParts K S
+  pub housework : DoesHousework content faults cache_of old middle sent_old sent_new at before now
+  pub own : MakesAsked content faults cache_of middle new at asked answer
+
+-- the same, as far as there is an answer: there is one
+abbrev pub ServesAnswer : {K S : Type 0} → (K → Option (List Entry)) → (K → ℕ) → (S → CacheMap Bytes)
+    → (old new : FarmParts K S) → (sent_old sent_new : ℕ) → Readings → (before now : WireSeen) → Asked
+    → Option Answer → Type 0
+ServesAnswer content faults cache_of old new sent_old sent_new at before now asked None = ⊥
+ServesAnswer content faults cache_of old new sent_old sent_new at before now asked (Some answer) =
+    ServesAsked content faults cache_of old new sent_old sent_new at before now asked answer

@@ -7,3 +7,4 @@ pub mod Served
 pub mod Turns
 pub mod Housework
 pub mod AsModel
+pub mod Reactions

@@ -73,8 +73,8 @@ fn if_live(cookie: Option<PosCookie>, now: Moment) -> Option<PosCookie>
 }
 
 /// The client of a cookie, or else this one.
-pub(crate) fn client_of(cookie: Option<PosCookie>, stranger: ClientId) -> ClientId
-    ensures { result ≡ client_of_cookie (option_map cookie_of cookie) stranger }
+pub(crate) fn client_of(cookie: &Option<PosCookie>, stranger: ClientId) -> ClientId
+    ensures { result ≡ client_of_cookie (option_map cookie_of cookie.now) stranger }
 {
     match cookie {
         Some(cookie) => cookie.client,

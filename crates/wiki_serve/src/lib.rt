@@ -23,15 +23,14 @@
 
 mod asked_steps;
 mod callers;
+mod connection;
 mod housework;
 mod read_arrival;
 mod replies;
 mod respond;
 mod serve_arrival;
-mod serve_conn;
 mod served_farm;
 
-pub use farm_base::Memory;
+pub use connection::{ConnEnd, REQUESTS_MAX, serve_conn};
 pub use housework::TAKEN_MAX;
-pub use serve_conn::{ConnEnd, REQUESTS_MAX, serve_conn};
 pub use served_farm::ServedFarm;

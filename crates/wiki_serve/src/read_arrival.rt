@@ -1,8 +1,11 @@
 // What comes next on a connection.
-ghost use Rattle.std.specs.Prelude.{◌≡◌, ℕ};
+ghost use Rattle.std.specs.Prelude.{◌≡◌};
+ghost use Rattle.wiki_titles.specs.ClientId.{client_after};
+ghost use Rattle.wiki_serve.specs.Connections.{conn_seen};
+ghost use Rattle.wiki_serve.specs.Reactions.{Arrives, IsFrom};
 
 use crate::callers::Visit;
-use crate::serve_conn::ConnEnd;
+use crate::connection::ConnEnd;
 use farm_base::Conn;
 use http_desk::{Incoming, Request, read_request};
 use http_reply::Refusal;
@@ -21,7 +24,14 @@ pub enum Arrival {
 }
 
 /// Reads what comes next. `kept` is what was read after the last request.
-pub(crate) fn read_arrival<X: Conn>(alloc: Global, conn: &mut X, kept: &mut Vec<u8>) -> Arrival {
+pub(crate) fn read_arrival<X: Conn>(alloc: Global, conn: &mut X, kept: &mut Vec<u8>) -> Arrival
+    ensures { Arrives
+        (conn_seen (X.peer conn.old) (X.left conn.old) (X.written conn.old) (X.Source.faults conn.old)
+          (X.Sink.faults conn.old))
+        (conn_seen (X.peer conn.new) (X.left conn.new) (X.written conn.new) (X.Source.faults conn.new)
+          (X.Sink.faults conn.new))
+        kept.old.items kept.new.items result }
+{
     conn.shows_halves();
     let incoming = read_request(alloc, conn, kept);
     conn.shows_halves();
@@ -35,7 +45,10 @@ pub(crate) fn read_arrival<X: Conn>(alloc: Global, conn: &mut X, kept: &mut Vec<
     }
 }
 
-fn visit_of(peer: &str, request: Request) -> Visit {
+fn visit_of(peer: &str, request: Request) -> Visit
+    ensures request { result.request ≡ request }
+    ensures from { IsFrom peer.now result }
+{
     let stranger = ClientId::of(peer, &request.agent);
     Visit { request, stranger }
 }

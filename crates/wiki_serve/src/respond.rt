@@ -1,9 +1,18 @@
 // Writing the response to a request.
-ghost use Rattle.std.specs.Prelude.{◌≡◌, ℕ};
+ghost use Rattle.std.specs.Prelude.{◌≡◌, ◌==◌, ◌||◌, ◌++◌, [], if◌then◌else◌, IfOk, OnOk};
+ghost use Rattle.wiki_model.specs.Limits.{requests_max};
+ghost use Rattle.region_state.specs.AsModel.{answer_of};
+ghost use Rattle.wiki_model.specs.Report as report;
+ghost use Rattle.farm_base.specs.Exposed.{Adds, AddsPrefix};
+ghost use Rattle.farm_base.specs.Causes.{HasCause};
+ghost use Rattle.http_reply.specs.Reply as reply;
+ghost use Rattle.http_reply.specs.AsModel.{refusal_of};
+ghost use Rattle.wiki_serve.specs.Connections.{conn_seen};
+ghost use Rattle.wiki_serve.specs.Reactions.{Responds, reaction_closes, reaction_bytes, page_part, end_after};
 
 use crate::replies::{answer_start, sent_page, unserved_bytes};
 use crate::serve_arrival::{Answered, Reaction};
-use crate::serve_conn::{ConnEnd, REQUESTS_MAX};
+use crate::connection::{ConnEnd, REQUESTS_MAX};
 use farm_base::{Conn, Memory, OutFault, write_all};
 use http_reply::{Refusal, answer_bytes, refusal_reply};
 use std::alloc::Global;
@@ -15,7 +24,14 @@ pub(crate) fn respond<X: Conn>(
     conn: &mut X,
     reaction: &Reaction,
     number: u64,
-) -> Option<ConnEnd> {
+) -> Option<ConnEnd>
+    ensures { Responds
+        (conn_seen (X.peer conn.old) (X.left conn.old) (X.written conn.old) (X.Source.faults conn.old)
+          (X.Sink.faults conn.old))
+        (conn_seen (X.peer conn.new) (X.left conn.new) (X.written conn.new) (X.Source.faults conn.new)
+          (X.Sink.faults conn.new))
+        reaction.now number result }
+{
     if let Reaction::Ended(end) = reaction {
         return Some(*end);
     }
@@ -23,14 +39,19 @@ pub(crate) fn respond<X: Conn>(
     let Ok(start) = start_of(alloc, reaction, closes || number == REQUESTS_MAX) else {
         return Some(ConnEnd::Memory);
     };
-    match write_both(conn, &start, page_of(reaction)) {
+    conn.shows_halves();
+    let wrote = write_both(conn, &start, page_of(reaction));
+    conn.shows_halves();
+    match wrote {
         Err(OutFault::Failed) => Some(ConnEnd::WriteFault),
         Ok(()) => end_after(closes, number),
     }
 }
 
 /// How the connection ends after a response that was written whole.
-fn end_after(closes: bool, number: u64) -> Option<ConnEnd> {
+fn end_after(closes: bool, number: u64) -> Option<ConnEnd>
+    ensures { result ≡ end_after closes number }
+{
     if closes {
         Some(ConnEnd::Ended)
     } else if number == REQUESTS_MAX {
@@ -41,7 +62,9 @@ fn end_after(closes: bool, number: u64) -> Option<ConnEnd> {
 }
 
 /// Whether the connection ends after the response.
-fn closes(reaction: &Reaction) -> bool {
+fn closes(reaction: &Reaction) -> bool
+    ensures { result ≡ reaction_closes reaction.now }
+{
     match reaction {
         Reaction::Ended(_) => true,
         Reaction::Refused(refusal) => refusal.close,
@@ -51,7 +74,9 @@ fn closes(reaction: &Reaction) -> bool {
 }
 
 /// The bytes of the response, but for those of a page.
-fn start_of(alloc: Global, reaction: &Reaction, close: bool) -> Result<Vec<u8>, Memory> {
+fn start_of(alloc: Global, reaction: &Reaction, close: bool) -> Result<Vec<u8>, Memory>
+    ensures { IfOk result (λ start. start.items ++ page_part reaction.now ≡ reaction_bytes reaction.now close) }
+{
     match reaction {
         Reaction::Ended(_) => Ok(Vec::new(alloc)),
         Reaction::Refused(refusal) => refused_bytes(alloc, refusal, close),
@@ -66,24 +91,36 @@ fn start_of(alloc: Global, reaction: &Reaction, close: bool) -> Result<Vec<u8>, 
     }
 }
 
-fn refused_bytes(alloc: Global, refusal: &Refusal, close: bool) -> Result<Vec<u8>, Memory> {
+fn refused_bytes(alloc: Global, refusal: &Refusal, close: bool) -> Result<Vec<u8>, Memory>
+    ensures { IfOk result (λ bytes.
+        bytes.items ≡ reply.answer_bytes (reply.refusal_reply (refusal_of refusal.now) close)) }
+{
     let reply = refusal_reply(alloc, refusal, close)?;
     answer_bytes(alloc, &reply)
 }
 
 /// The bytes of the page that is sent; none if there is none.
-fn page_of(reaction: &Reaction) -> &[u8] {
+fn page_of(reaction: &Reaction) -> &[u8]
+    ensures { result.now ≡ page_part reaction.now }
+{
     match reaction {
         Reaction::Answered(answered) => page_in(answered),
         _ => &[],
     }
 }
 
-fn page_in(answered: &Answered) -> &[u8] {
+fn page_in(answered: &Answered) -> &[u8]
+    ensures { result.now ≡ (if answered.now.head then [] else report.page_of (answer_of answered.now.answer)) }
+{
     sent_page(&answered.answer, answered.head)
 }
 
-fn write_both<X: Conn>(conn: &mut X, start: &[u8], page: &[u8]) -> Result<(), OutFault> {
+fn write_both<X: Conn>(conn: &mut X, start: &[u8], page: &[u8]) -> Result<(), OutFault>
+    ensures ok { OnOk result (Adds (X.written conn.old) (X.written conn.new) (start.now ++ page.now)) }
+    ensures prefix { AddsPrefix (X.written conn.old) (X.written conn.new) (start.now ++ page.now) }
+    ensures cause { HasCause (X.Sink.faults conn.old) (X.Sink.faults conn.new) result }
+    ensures other { X.reading_half conn.new ≡ X.reading_half conn.old }
+{
     write_all(conn, start)?;
     write_all(conn, page)
 }

@@ -1,9 +1,15 @@
 // What is done for what was read.
-ghost use Rattle.std.specs.Prelude.{◌≡◌, ◌≤◌, None, Some, IfOk, IfSome, option_map};
+ghost use Rattle.std.specs.Prelude.{◌≡◌, None, IfOk, option_map};
+ghost use Rattle.std.specs.String.{string_bytes};
+ghost use Rattle.wiki_model.specs.Bytes.{Bytes};
+ghost use Rattle.http_desk.specs.AsModel.{call_shown, request_shown};
+ghost use Rattle.wiki_serve.specs.Exchanges.{heard_seen};
+ghost use Rattle.wiki_serve.specs.Reactions.{IsFrom, IsLocationFor, DoesCallFor, outside_seen, ReactsTo, Reacts, desk_of};
 ghost use Rattle.wiki_model.specs.World.Asked.{AskedView, AskedEdit};
 ghost use Rattle.edit_core.specs.AsModel.{edit_of};
 ghost use Rattle.region_state.specs.AsModel.{answer_of, view_of};
-ghost use Rattle.farm_core.specs.FarmParts.{IsWhole, SameShape};
+ghost use Rattle.wiki_serve.specs.Housework.{wire_seen, ServesAnswer};
+ghost use Rattle.farm_core.specs.FarmParts.{IsWhole};
 ghost use Rattle.farm_steps.specs.RequestMap.{open_at};
 
 use crate::asked_steps::{make_edit, make_view};
@@ -11,7 +17,7 @@ use crate::callers::{Visit, client_of, live_cookie, moment_for};
 use crate::housework::keep_house;
 use crate::read_arrival::Arrival;
 use crate::replies::location_of;
-use crate::serve_conn::ConnEnd;
+use crate::connection::ConnEnd;
 use crate::served_farm::ServedFarm;
 use farm_base::{Clock, Lots, Memory, Readings};
 use farm_core::{Answer, EditAsk, Page, ViewAsk};
@@ -65,6 +71,13 @@ pub(crate) fn serve_arrival<
 ) -> Reaction
     requires whole { IsWhole served.old.farm }
     requires free { open_at served.old.farm.requests 0 ≡ None }
+    ensures { (peer : Bytes) → Reacts K.content K.faults S.cache peer served.old.farm served.new.farm served.old.sent
+        served.new.sent
+        (heard_seen (C.exposed clock.old) (L.exposed lots.old) (W.carried wire.old) (W.refused wire.old)
+          (W.empty wire.old))
+        (heard_seen (C.exposed clock.new) (L.exposed lots.new) (W.carried wire.new) (W.refused wire.new)
+          (W.empty wire.new))
+        arrival result }
 {
     match arrival {
         Arrival::Ended(end) => Reaction::Ended(end),
@@ -83,6 +96,13 @@ fn serve_visit<K: Keeper, S: RegionStore<Page>, C: Clock, L: Lots, W: Wire>(
 ) -> Reaction
     requires whole { IsWhole served.old.farm }
     requires free { open_at served.old.farm.requests 0 ≡ None }
+    ensures { (peer : Bytes) → IsFrom peer visit → ReactsTo K.content K.faults S.cache (desk_of peer served.old.farm)
+        served.old.farm served.new.farm served.old.sent served.new.sent
+        (heard_seen (C.exposed clock.old) (L.exposed lots.old) (W.carried wire.old) (W.refused wire.old)
+          (W.empty wire.old))
+        (heard_seen (C.exposed clock.new) (L.exposed lots.new) (W.carried wire.new) (W.refused wire.new)
+          (W.empty wire.new))
+        visit result }
 {
     let Ok(location) = location_for(alloc, &visit.request.call) else {
         return Reaction::Ended(ConnEnd::Memory);
@@ -103,7 +123,9 @@ fn serve_visit<K: Keeper, S: RegionStore<Page>, C: Clock, L: Lots, W: Wire>(
 
 /// Where the page of an edit is; empty for another call. It is made before the first step, so that an edit that is
 /// saved can be answered.
-fn location_for(alloc: Global, call: &Call) -> Result<String, Memory> {
+fn location_for(alloc: Global, call: &Call) -> Result<String, Memory>
+    ensures { IfOk result (λ text. IsLocationFor (call_shown call.now) (string_bytes text)) }
+{
     match call {
         Call::Edit { title, .. } => location_of(alloc, title),
         Call::Page(_) | Call::Batch(_) => Ok(String::new(alloc)),
@@ -121,10 +143,15 @@ fn serve_call<K: Keeper, S: RegionStore<Page>, L: Lots, W: Wire>(
 ) -> Option<Answer>
     requires whole { IsWhole served.old.farm }
     requires free { open_at served.old.farm.requests 0 ≡ None }
+    ensures { (peer : Bytes) → IsFrom peer visit → DoesCallFor K.content K.faults S.cache (desk_of peer served.old.farm)
+        served.old.farm served.new.farm served.old.sent served.new.sent at.now
+        (outside_seen (L.exposed lots.old) (W.carried wire.old) (W.refused wire.old) (W.empty wire.old))
+        (outside_seen (L.exposed lots.new) (W.carried wire.new) (W.refused wire.new) (W.empty wire.new))
+        (request_shown visit.request) (option_map answer_of result) }
 {
     let now = moment_for(&served.farm, at, &visit.request);
     let cookie = live_cookie(&visit.request, now);
-    let client = client_of(cookie, visit.stranger);
+    let client = client_of(&cookie, visit.stranger);
     let Request {
         host,
         cookies,
@@ -141,8 +168,7 @@ fn serve_call<K: Keeper, S: RegionStore<Page>, L: Lots, W: Wire>(
                 word: lots.word(),
                 title,
             };
-            keep_house(served, at, wire);
-            make_view(alloc, &mut served.farm, at, ask)
+            serve_view(alloc, served, wire, at, ask)
         }
         Call::Edit {
             title,
@@ -157,12 +183,46 @@ fn serve_call<K: Keeper, S: RegionStore<Page>, L: Lots, W: Wire>(
                 base,
                 text,
             };
-            keep_house(served, at, wire);
-            make_edit(&mut served.farm, at, ask)
+            serve_edit(served, wire, at, ask)
         }
         Call::Batch(_) => {
             keep_house(served, at, wire);
             None
         }
     }
+}
+
+fn serve_view<K: Keeper, S: RegionStore<Page>, W: Wire>(
+    alloc: Global,
+    served: &mut ServedFarm<K, S>,
+    wire: &mut W,
+    at: &Readings,
+    ask: ViewAsk,
+) -> Option<Answer>
+    requires whole { IsWhole served.old.farm }
+    requires free { open_at served.old.farm.requests 0 ≡ None }
+    ensures { ServesAnswer K.content K.faults S.cache served.old.farm served.new.farm served.old.sent served.new.sent
+        at.now (wire_seen (W.carried wire.old) (W.refused wire.old) (W.empty wire.old))
+        (wire_seen (W.carried wire.new) (W.refused wire.new) (W.empty wire.new))
+        (AskedView (view_of ask)) (option_map answer_of result) }
+{
+    keep_house(served, at, wire);
+    make_view(alloc, &mut served.farm, at, ask)
+}
+
+fn serve_edit<K: Keeper, S: RegionStore<Page>, W: Wire>(
+    served: &mut ServedFarm<K, S>,
+    wire: &mut W,
+    at: &Readings,
+    ask: EditAsk,
+) -> Option<Answer>
+    requires whole { IsWhole served.old.farm }
+    requires free { open_at served.old.farm.requests 0 ≡ None }
+    ensures { ServesAnswer K.content K.faults S.cache served.old.farm served.new.farm served.old.sent served.new.sent
+        at.now (wire_seen (W.carried wire.old) (W.refused wire.old) (W.empty wire.old))
+        (wire_seen (W.carried wire.new) (W.refused wire.new) (W.empty wire.new))
+        (AskedEdit (edit_of ask)) (option_map answer_of result) }
+{
+    keep_house(served, at, wire);
+    make_edit(&mut served.farm, at, ask)
 }

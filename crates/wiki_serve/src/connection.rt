@@ -1,5 +1,10 @@
 // The loop over the requests of one connection.
 ghost use Rattle.std.specs.Prelude.{◌≡◌, ◌≤◌, None};
+ghost use Rattle.wiki_serve.specs.Exchanges.{heard_seen};
+ghost use Rattle.wiki_serve.specs.Connections.{conn_seen, IsServed};
+ghost use Rattle.wiki_serve.specs.Turns.{StandsSent, unsent_of};
+ghost use Rattle.wiki_serve.specs.Reactions.{desk_of};
+ghost use Rattle.wiki_serve.specs.AsModel.{end_of};
 ghost use Rattle.farm_core.specs.FarmParts.{IsWhole};
 ghost use Rattle.farm_steps.specs.RequestMap.{open_at};
 
@@ -37,6 +42,9 @@ pub enum ConnEnd {
 }
 
 /// Serves the requests of a connection, one by one, until it ends.
+///
+/// The farm is ready for it: neither cache is lent, and no request is open under the number 0, which whole requests
+/// take. It is so again at the end.
 pub fn serve_conn<
     X: Conn,
     K: Keeper,
@@ -54,15 +62,32 @@ pub fn serve_conn<
 ) -> ConnEnd
     requires whole { IsWhole served.old.farm }
     requires free { open_at served.old.farm.requests 0 ≡ None }
+    // What was read and written, what was heard, and what the farm did.
+    ensures served { IsServed (desk_of (X.peer conn.old) served.old.farm)
+        (conn_seen (X.peer conn.old) (X.left conn.old) (X.written conn.old) (X.Source.faults conn.old)
+          (X.Sink.faults conn.old))
+        (conn_seen (X.peer conn.new) (X.left conn.new) (X.written conn.new) (X.Source.faults conn.new)
+          (X.Sink.faults conn.new))
+        (heard_seen (C.exposed clock.old) (L.exposed lots.old) (W.carried wire.old) (W.refused wire.old)
+          (W.empty wire.old))
+        (heard_seen (C.exposed clock.new) (L.exposed lots.new) (W.carried wire.new) (W.refused wire.new)
+          (W.empty wire.new))
+        (unsent_of served.old.farm served.old.sent) (unsent_of served.new.farm served.new.sent)
+        (StandsSent K.content K.faults S.cache served.old.farm served.old.sent)
+        (StandsSent K.content K.faults S.cache served.new.farm served.new.sent) (end_of result) }
+    ensures whole { IsWhole served.new.farm }
+    ensures free { open_at served.new.farm.requests 0 ≡ None }
+    // The keeper's count of faults does not fall.
+    ensures counts { K.faults served.old.farm.keeper ≤ K.faults served.new.farm.keeper }
 {
     let mut kept = Vec::new(alloc);
-    let mut number = 1;
+    let mut answered = 0;
     loop {
         let arrival = read_arrival(alloc, conn, &mut kept);
         let reaction = serve_arrival(alloc, served, clock, lots, wire, arrival);
-        if let Some(end) = respond(alloc, conn, &reaction, number) {
+        if let Some(end) = respond(alloc, conn, &reaction, answered + 1) {
             return end;
         }
-        number += 1;
+        answered += 1;
     }
 }
