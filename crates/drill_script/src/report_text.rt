@@ -140,7 +140,8 @@ fn page_text(
     Ok(format!(in alloc; "ok source={source} from={origin}{note} lagged={lagged} bytes={bytes}")?)
 }
 
-fn origin_text(alloc: Global, origin: Origin) -> Result<String, Memory>
+/// Where a page came from, in words.
+pub fn origin_text(alloc: Global, origin: Origin) -> Result<String, Memory>
     ensures { IfOk result (λ s. string_bytes s ≡ origin_text origin) }
 {
     match origin {

@@ -500,7 +500,8 @@ impl<K: Keeper, S: RegionStore<Page>> Farm<K, S> {
 
     /// The message of this number.
     pub fn message(&self, number: u64) -> Option<&Message>
-        ensures { option_copied result ≡ option_map (λ row. row.message) (row_at self.now.ledger.rows number) }
+        ensures value { option_copied result ≡ option_map (λ row. row.message) (row_at self.now.ledger.rows number) }
+        ensures number { IfSome result (λ message. message.now.number ≡ number) }
     {
         self.ledger.message(number)
     }
@@ -576,6 +577,7 @@ impl<K: Keeper, S: RegionStore<Page>> Farm<K, S> {
         self.last_beat
     }
 
+    /// The plan by which the farm was opened.
     pub fn plan(&self) -> &FarmPlan
         ensures { result.now ≡ self.now.plan }
     {

@@ -2,20 +2,8 @@
 use Rattle.std.proofs.Common.{◌≡◌, ℕ, Result, Ok, Err, Bool, true, false, List, [], ◌∷◌, ◌++◌, refl, sym, ap, ◌∙◌, append_assoc}
 use Rattle.std.specs.Prelude.{codes, decimal, if◌then◌else◌, IfOk, string_bytes, String}
 use Rattle.wiki_model.specs.Bytes.{Bytes}
+use Rattle.farm_base.proofs.Pieces.{right_left}
 use Rattle.http_reply.specs.Reply.{phrase, end_of_line, field_line, content_type, first_fields, printed_first_fields}
-
-abbrev left : Bytes → List Bytes → Bytes
-left p [] = p
-left p (q ∷ pieces) = left (p ++ q) pieces
-
-abbrev right : Bytes → List Bytes → Bytes
-right p [] = p
-right p (q ∷ pieces) = p ++ right q pieces
-
-right_left : (p : Bytes) (pieces : List Bytes) → right p pieces ≡ left p pieces
-right_left p [] = refl
-right_left p (q ∷ []) = refl
-right_left p (q ∷ r ∷ pieces) = sym (append_assoc p q (right r pieces)) ∙ right_left (p ++ q) (r ∷ pieces)
 
 pub first_fields_are : (status : ℕ) (html : Bool) (count : ℕ) → printed_first_fields status (phrase status) (if html then codes "html" else codes "plain") count ≡ first_fields status html count
 first_fields_are status true count =

@@ -1,5 +1,5 @@
 // The templates that a text names.
-ghost use Rattle.std.specs.Prelude.{◌≡◌, ◌≤◌, ◌<◌, ◌+◌, ◌-◌, ℕ, List, IfOk, OnOk, IsTrue, length, drop, codes};
+ghost use Rattle.std.specs.Prelude.{◌≡◌, ◌≤◌, ◌<◌, ◌+◌, ◌-◌, ◌++◌, ℕ, List, IfOk, OnOk, IsTrue, length, drop, codes};
 ghost use Rattle.std.specs.Str.{IsCharBoundary};
 ghost use Rattle.wiki_model.specs.Html.{template_named};
 ghost use Rattle.wiki_model.specs.Limits.{brackets_max, text_max};
@@ -149,9 +149,11 @@ fn is_at(text: &str, span: Span, name: &str) -> bool
     ensures { IsTrue result → between span.start span.end text.now ≡ name.now }
 {
     let bytes = text.as_bytes();
-    span.start <= span.end
-        && span.end <= bytes.len()
-        && bytes[span.start..span.end] == *name.as_bytes()
+    if span.end < span.start || bytes.len() < span.end {
+        return false;
+    }
+    let there = &bytes[span.start..span.end];
+    there == name.as_bytes()
 }
 
 /// The title of the template that a text between braces names.
