@@ -19,7 +19,8 @@ lines_of lines = map line_of lines
 
 -- the plan is the setting that the first lines give, in whatever way titles go together
 abbrev pub IsPlan : List ScriptLine → FarmPlan → Type 0
-IsPlan lines plan = (together : Region → Title → Title → Bool) → IsPlanOf (script_setting together (lines_of lines)) plan
+IsPlan lines plan =
+    (together : Region → Title → Title → Bool) → IsPlanOf (script_setting together (lines_of lines)) plan
 
 -- each cache has room for 65,536 pages, and replicas apply nothing of themselves
 abbrev pub HasRoom : FarmPlan → Type 0

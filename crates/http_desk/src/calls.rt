@@ -76,7 +76,7 @@ fn call_of_route(alloc: Global, route: Route<'_>, query: &[u8], body: &[u8]) -> 
     }
 }
 
-#[tactic(auto, using(crate::proofs::Utf8::is_text, crate::proofs::Utf8::not_text))]
+#[tactic(auto, using(crate::proofs::Utf8::is_text, farm_base::proofs::Pieces::not_utf8))]
 fn page_call(alloc: Global, rest: &[u8]) -> Outcome
     ensures { ReadsCall result (page_call rest.now) }
 {

@@ -1,6 +1,6 @@
 -- The titles that a text names, found place by place; which of them were named before; and their order.
-use Rattle.std.proofs.Common.{suc, [], ◌∷◌, ◌++◌, List, length, drop, ◌≡◌, ℕ, ◌≤◌, ◌<◌, ◌+◌, refl, arith, ap, sym, ◌∙◌, Some, None, get_or, replicate, append-nil, inl, inr, subst, true}
-use Rattle.std.specs.Prelude.{◌↔◌, ◌⊎◌, ⊥, bytes_eq, slice_set}
+use Rattle.std.proofs.Common.{suc, [], ◌∷◌, ◌++◌, List, length, drop, ◌≡◌, ℕ, ◌≤◌, ◌<◌, ◌+◌, refl, arith, ap, sym, ◌∙◌, Some, None, get_or, replicate, append-nil, inl, inr, Result, Ok, Err, subst, true}
+use Rattle.std.specs.Prelude.{◌↔◌, ◌⊎◌, IfOk, bytes_eq, slice_set}
 use Rattle.std.specs.List.{All, Contains, dedup}
 use Rattle.std.specs.List.Sorted.{IsSorted, IsPermutation, IsStrictlySortedBy}
 use Rattle.std.specs.Cmp.Lexicographic.{same_text, nat_list_eq_equiv, nat_list_cmp_total, texts_ties}
@@ -16,7 +16,7 @@ use Rattle.page_markup.specs.declared.collect_names.Lines.{Lines}
 use Rattle.page_markup.specs.declared.collect_names.Lines.TheVariants.{Kept, AsSpaces}
 use Rattle.page_markup.specs.declared.collect_names.Span.{Span}
 use Rattle.page_markup.specs.ClosingPlaces.{between}
-use Rattle.page_markup.specs.Names.{AddsNames, AreNames, AreRecent, IsRecent, name_here, named_between, names_from, read_as}
+use Rattle.page_markup.specs.Names.{AddsNames, AreNames, AreRecent, IsRecent, name_here, named_between, names_from, nothing, read_as}
 
 -- names more
 
@@ -89,7 +89,7 @@ pub begins_named : (lines : Lines) (text : Bytes) → HasNames lines text 0 []
 begins_named lines text t = (λ h. h, λ h. h)
 
 -- nothing is left
-pub all_named : (lines : Lines) (text : Bytes) (titles names : List Title) (at : ℕ) → length text ≤ at → HasNames lines text at titles → AreNames titles names
+all_named : (lines : Lines) (text : Bytes) (titles names : List Title) (at : ℕ) → length text ≤ at → HasNames lines text at titles → AreNames titles names
     → AreNames (names_from (read_as lines text)) names
 all_named lines text titles names at h has are = record {
   sorted = are.sorted;
@@ -105,9 +105,14 @@ all_named lines text titles names at h has are = record {
   whole : (t : Title) → Contains titles t ↔ Contains (names_from (read_as lines text)) t
   whole t = (λ c. (has t).0 (subst (λ ts. Contains ts t) (sym end) c), λ c. subst (λ ts. Contains ts t) end ((has t).1 c))
 
+pub if_named : {V E : Type 0} (result : Result V E) (items : V → List Title) (lines : Lines) (text : Bytes) (titles : List Title) (at : ℕ) → length text ≤ at → HasNames lines text at titles
+    → IfOk result (λ v. AreNames titles (items v)) → IfOk result (λ v. AreNames (names_from (read_as lines text)) (items v))
+if_named (Ok v) items lines text titles at h has are = all_named lines text titles (items v) at h has are
+if_named (Err e) items lines text titles at h has are = tt
+
 -- what was named just now
 
-pub begins_recent : (lines : Lines) (text : Bytes) (titles : List Title) (n : ℕ) → AreRecent lines text titles (replicate n (let s : Span = record { start = 0; end = 0 } in s))
+pub begins_recent : (lines : Lines) (text : Bytes) (titles : List Title) (n : ℕ) → AreRecent lines text titles (replicate n nothing)
 begins_recent lines text titles n = All-replicate (IsRecent lines text titles) n _ (nothing lines) where
   nothing : (lines : Lines) → IsRecent lines text titles (let s : Span = record { start = 0; end = 0 } in s)
   nothing Kept t c = let z : ⊥ = omega (arith, c.1) in elim z [ ]

@@ -46,6 +46,10 @@ abbrev pub IsRecent : Lines → (text : Bytes) → List Title → Span → Type 
 IsRecent lines text titles span =
     (title : Title) → Contains (named_between lines (between span.start span.end text)) title → Contains titles title
 
+-- a place at which nothing is named
+abbrev pub nothing : Span
+nothing = record { start = 0; end = 0 }
+
 abbrev pub AreRecent : Lines → (text : Bytes) → List Title → List Span → Type 0
 AreRecent lines text titles spans = All (IsRecent lines text titles) spans
 

@@ -1,12 +1,12 @@
 // The templates that a text names.
-ghost use Rattle.std.specs.Prelude.{◌≡◌, ◌≤◌, ◌<◌, ◌+◌, ◌-◌, ◌++◌, ℕ, List, IfOk, OnOk, IsTrue, length, drop, codes};
+ghost use Rattle.std.specs.Prelude.{◌≡◌, ◌≤◌, ◌<◌, ◌+◌, ◌-◌, ◌++◌, ℕ, List, IfOk, OnOk, IsTrue, length, drop, codes, replicate};
 ghost use Rattle.std.specs.Str.{IsCharBoundary};
 ghost use Rattle.wiki_model.specs.Html.{template_named};
 ghost use Rattle.wiki_model.specs.Limits.{brackets_max, text_max};
 ghost use Rattle.wiki_model.specs.Bytes.{line_feed, replaced, space};
 ghost use Rattle.page_markup.specs.ClosingPlaces.{between};
 ghost use Rattle.page_markup.specs.Mark.{Remembers};
-ghost use Rattle.page_markup.specs.Names.{AddsNames, AreNames, AreRecent, listed, name_here, named_between, names_from, read_as};
+ghost use Rattle.page_markup.specs.Names.{AddsNames, AreNames, AreRecent, listed, name_here, named_between, names_from, nothing, read_as};
 
 use crate::brackets::{Names, template_title};
 use crate::closing_places::brackets_within;
@@ -62,13 +62,20 @@ fn names_by(alloc: Global, text: &str, lines: Lines) -> Result<Vec<Title>, Alloc
 {
     let mut found = Found {
         titles: Vec::new(alloc),
-        recent: vec![in alloc; Span { start: 0, end: 0 }; RECENT]?,
+        recent: nowhere(alloc)?,
     };
     let mut known = 0;
     for at in 0..text.len() {
         known = read_name(alloc, &mut found, text, lines, at, known)?;
     }
     in_order(found.titles)
+}
+
+/// Places at which nothing is named.
+fn nowhere(alloc: Global) -> Result<Vec<Span>, AllocError>
+    ensures { IfOk result (λ spans. spans.items ≡ replicate RECENT nothing) }
+{
+    vec![in alloc; Span { start: 0, end: 0 }; RECENT]
 }
 
 /// Adds the title that braces at the place name, if they name one. Answers the next place of closing braces.

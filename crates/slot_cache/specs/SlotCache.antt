@@ -62,7 +62,8 @@ module _ {P : Type 0} where
   AreEmpty rows = (slot : ℕ) (row : SlotRow P) → row_in rows slot ≡ Some row → (row.main ≡ None) × (row.interim ≡ None)
 
   -- One slot is as a put with this answer leaves it, and the others stay.
-  pub record StoresIn (old new : List (Box (SlotRow P))) (slot : ℕ) (key : Title) (value : Value P) (answer : Put) : Type 0 where
+  pub record StoresIn (old new : List (Box (SlotRow P))) (slot : ℕ) (key : Title) (value : Value P)
+      (answer : Put) : Type 0 where
     pub before : SlotRow P
     pub after : SlotRow P
     pub there : row_in old slot ≡ Some before

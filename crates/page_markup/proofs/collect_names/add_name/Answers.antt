@@ -1,4 +1,4 @@
-use Rattle.std.proofs.Common.{◌≡◌, ◌<◌, ◌++◌, ap, subst, sym, ◌∙◌}
+use Rattle.std.proofs.Common.{◌≡◌, ◌<◌, ◌++◌, arith, ap, subst, sym, ◌∙◌}
 use Rattle.wiki_model.specs.Html.{template_named}
 use Rattle.page_markup.specs.ClosingPlaces.{between}
 use Rattle.page_markup.specs.Names.{AddsNames, listed, named_between, read_as}
@@ -13,8 +13,8 @@ returns-then-is_at-clause-names c =
     let seen = c.index.result.now in
     subst (λ name. AddsNames titles titles (named_between c.args.lines name)) c.part-name.ensures
     (is_recent c.args.lines text c.part-name.result.now titles spans c.place_of-place.result seen
-    (subst (λ n. c.place_of-place.result < n) c.len.ensures c.place_of-place.ensures)
-    (sym (ap (λ (s : Rattle.page_markup.specs.declared.collect_names.Span.Span). between s.start s.end text) c.index.ensures) ∙ c.if-is_at.ensures tt) c.requires.recent)
+    (let count = c.len.ensures in let below = c.place_of-place.ensures in omega (arith, count, below))
+    (sym (ap (λ (s : Rattle.page_markup.specs.declared.collect_names.Span.Span). between s.start s.end text) c.index.ensures) ∙ c.is_at.ensures c.if-is_at.true) c.requires.recent)
 
 pub returns-clause-recent : goal.returns-clause-recent
 returns-clause-recent c =
