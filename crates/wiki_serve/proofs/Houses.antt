@@ -308,27 +308,30 @@ module _ {K S : Type 0} (content : K → Option (List Entry)) (faults : K → �
           let homes : length f2.home.replicas ≡ length f1.home.replicas = beat.made.shape.home in
           let wests : length f3.west.replicas ≡ length f1.west.replicas = home.made.shape.west ∙ beat.made.shape.west in
           let steps : applies_to Home f2.plan.pace 0 (length f2.home.replicas) ++ applies_to West f2.plan.pace 0 (length f3.west.replicas) ≡ applies w f0.plan.pace =
-              ap (λ n. applies_to Home f2.plan.pace 0 n ++ applies_to West f2.plan.pace 0 (length f3.west.replicas)) homes
-              ∙ ap (λ n. applies_to Home f2.plan.pace 0 (length f1.home.replicas) ++ applies_to West f2.plan.pace 0 n) wests
-              ∙ ap (λ p. applies_to Home p 0 (length f1.home.replicas) ++ applies_to West p 0 (length f1.west.replicas)) pace_is
-              ∙ sym (applied_long f1 w f0.plan.pace a) in
+          ap (λ n. applies_to Home f2.plan.pace 0 n ++ applies_to West f2.plan.pace 0 (length f3.west.replicas)) homes
+          ∙ ap (λ n. applies_to Home f2.plan.pace 0 (length f1.home.replicas) ++ applies_to West f2.plan.pace 0 n) wests
+          ∙ ap (λ p. applies_to Home p 0 (length f1.home.replicas) ++ applies_to West p 0 (length f1.west.replicas)) pace_is
+          ∙ sym (applied_long f1 w f0.plan.pace a) in
           all_joined at (beat_if (is_due w at)) (applies w f0.plan.pace) beat.turns (home.turns ++ west.turns)
-            (subst (λ b. AllMade at (beat_if b) beat.turns) (sym (beat.is w a)) beat.are)
-            (subst (λ ss. AllMade at ss (home.turns ++ west.turns)) steps
-              (all_joined at (applies_to Home f2.plan.pace 0 (length f2.home.replicas)) (applies_to West f2.plan.pace 0 (length f3.west.replicas)) home.turns west.turns home.are west.are))
+          (subst (λ b. AllMade at (beat_if b) beat.turns) (sym (beat.is w a)) beat.are)
+          (subst (λ ss. AllMade at ss (home.turns ++ west.turns)) steps
+          (all_joined at (applies_to Home f2.plan.pace 0 (length f2.home.replicas)) (applies_to West f2.plan.pace 0 (length f3.west.replicas)) home.turns west.turns home.are west.are))
 
       keeps : KeepsHouse content faults cache_of f0 f4 at f0.plan.pace takes.taken (carrying ++ keeping)
       keeps start earlier v stood =
           let (m, stands, went) = takes.takes.made.runs start earlier v stood in
           let (w, later, goes) = all.runs start (reverse carrying ++ earlier) m stands in
-          let order : reverse keeping ++ (reverse carrying ++ earlier) ≡ reverse (carrying ++ keeping) ++ earlier = sym (ap (λ l. l ++ earlier) (reverse-append carrying keeping) ∙ append_assoc (reverse keeping) (reverse carrying) earlier) in
-          (w, subst (λ (l : List Turn). Stands content faults cache_of f4 start l w) order later, record {
-            carrying = carrying;
-            keeping = keeping;
-            middle = m;
-            carried = takes.takes.are;
-            goes = went;
-            kept = applied m stands.agrees;
-            goes_on = goes;
-            all = refl;
-          })
+          let order : reverse keeping ++ (reverse carrying ++ earlier) ≡ reverse (carrying ++ keeping) ++ earlier = sym (ap (λ l. l ++ earlier) (reverse-append carrying keeping) ∙ append_assoc (reverse keeping) (reverse carrying) earlier) in (
+            w,
+            subst (λ (l : List Turn). Stands content faults cache_of f4 start l w) order later,
+            record {
+              carrying = carrying;
+              keeping = keeping;
+              middle = m;
+              carried = takes.takes.are;
+              goes = went;
+              kept = applied m stands.agrees;
+              goes_on = goes;
+              all = refl;
+            },
+          )

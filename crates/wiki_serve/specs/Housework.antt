@@ -138,7 +138,7 @@ abbrev pub KeepsHouse : {K S : Type 0} → (K → Option (List Entry)) → (K �
 KeepsHouse content faults cache_of old new at pace taken turns =
     (start : World) (earlier : List Turn) (v : World) → Stands content faults cache_of old start earlier v
     → (w : World) × Stands content faults cache_of new start (reverse turns ++ earlier) w
-      × Housekeeps at pace taken v turns w
+    × Housekeeps at pace taken v turns w
 
 -- The housekeeping of one request.
 pub record DoesHousework {K S : Type 0} (content : K → Option (List Entry)) (faults : K → ℕ)

@@ -59,10 +59,7 @@ fn send_unsent<K: Keeper, S: RegionStore<Page>, W: Wire>(
 }
 
 /// The message after the first `sent`; None if there is none.
-fn message_after<K: Keeper, S: RegionStore<Page>>(
-    farm: &Farm<K, S>,
-    sent: u64,
-) -> Option<&Message>
+fn message_after<K: Keeper, S: RegionStore<Page>>(farm: &Farm<K, S>, sent: u64) -> Option<&Message>
     ensures some { IfSome result (λ message. (sent < length farm.now.ledger.rows)
         × IsRow farm.now.ledger.rows (sent + 1) (taken_of message.now)) }
     ensures none { IfNone result (length farm.now.ledger.rows ≤ sent) }

@@ -57,9 +57,15 @@ fn page_head(
     page: &PageAnswer,
     lines: &[(String, String)],
     close: bool,
-) -> Result<Vec<u8>, Memory>
-{
-    let head = head_of_length(alloc, Status::Ok, true, page.page.bytes().len(), lines, close)?;
+) -> Result<Vec<u8>, Memory> {
+    let head = head_of_length(
+        alloc,
+        Status::Ok,
+        true,
+        page.page.bytes().len(),
+        lines,
+        close,
+    )?;
     Ok(head.into_bytes())
 }
 
@@ -69,8 +75,7 @@ fn text_response(
     lines: Vec<(String, String)>,
     head: bool,
     close: bool,
-) -> Result<Vec<u8>, Memory>
-{
+) -> Result<Vec<u8>, Memory> {
     let text = answer_text(alloc, false, answer)?;
     let reply = Reply {
         status: status_of(answer),
@@ -179,8 +184,7 @@ fn push_cookie(
     alloc: Global,
     lines: &mut Vec<(String, String)>,
     value: &str,
-) -> Result<(), Memory>
-{
+) -> Result<(), Memory> {
     let value = String::from_str(alloc, value)?;
     lines.push((String::from_str(alloc, "Set-Cookie")?, value))?;
     Ok(())
