@@ -1,5 +1,5 @@
 -- Each kind of call: a page, an edit, and a batch, which gets its housekeeping alone.
-use Rattle.std.proofs.Common.{◌≡◌, ℕ, Bool, List, [], ◌∷◌, Option, Some, None, refl, sym, ap, subst, ◌∙◌}
+use Rattle.std.proofs.Common.{◌≡◌, ℕ, ◌+◌, ◌≤◌, arith, Bool, List, [], ◌∷◌, Option, Some, None, refl, sym, ap, subst, ◌∙◌}
 use Rattle.wiki_model.specs.declared.Readings.{Readings}
 use Rattle.wiki_model.specs.Bytes.{Bytes}
 use Rattle.wiki_model.specs.Titles.{Title}
@@ -15,15 +15,17 @@ use Rattle.wiki_model.specs.Serving.{ServesOne, Housekeeps}
 use Rattle.wiki_model.specs.Asking.{Request, Call, PageCall, EditCall, BatchCall, FeedCall, MessagesCall}
 use Rattle.farm_base.specs.Series.{Series, Gives}
 use Rattle.farm_steps.specs.Moments.{moment_of, moments_at}
-use Rattle.farm_core.specs.FarmParts.{FarmParts}
+use Rattle.farm_core.specs.FarmParts.{FarmParts, SameShape}
+use Rattle.farm_steps.specs.RequestMap.{open_at}
 use Rattle.farm_core.specs.Agreement.{Agrees}
 use Rattle.wiki_serve.specs.Exchanges.{Answered, Unserved, Service}
 use Rattle.wiki_serve.specs.Replies.{location_of, answer_reply}
 use Rattle.wiki_serve.specs.Callers.{Desk, region_of, moment_for, view_for, edit_for}
 use Rattle.wiki_serve.specs.Services.{DoesCall}
-use Rattle.wiki_serve.specs.Turns.{FitsAsked}
+use Rattle.wiki_serve.specs.Turns.{FitsAsked, MakesAnswer}
 use Rattle.wiki_serve.specs.Housework.{WireSeen, DoesHousework, ServesAsked, ServesAnswer}
 use Rattle.wiki_serve.specs.Reactions.{outside_seen, IsAnswerTo, IsLocationFor, DoesCallFor}
+use Rattle.wiki_serve.proofs.Steps.{shapes}
 use Rattle.wiki_serve.proofs.Calling.{moment_is, asked_called, kept_called}
 
 page_answer : (view : View) (title : Title) (a : Answer) → FitsAsked (AskedView view) a → IsAnswerTo (PageCall title) title a
@@ -83,3 +85,23 @@ module _ {K S : Type 0} (content : K → Option (List Entry)) (faults : K → �
   batch_called desk old new sent_old sent_new at lots before now request titles pace call_is work =
       kept_called content faults cache_of desk old new sent_old sent_new at lots before now request pace work
       (λ service v w words_is keeps outcome. subst (λ (c : Call). DoesCall desk request c service v w) (sym call_is) (words_is, keeps, outcome))
+
+  -- what a whole request leaves of the farm, whatever it was answered
+
+  pub serves_shape : (old new : FarmParts K S) (sent_old sent_new : ℕ) (at : Readings) (before now : WireSeen) (asked : Asked) (result : Option Answer) → ServesAnswer content faults cache_of old new sent_old sent_new at before now asked result → SameShape old new
+  serves_shape old new sent_old sent_new at before now asked None serves = absurd serves
+  serves_shape old new sent_old sent_new at before now asked (Some a) serves = shapes old serves.middle new serves.housework.shape serves.own.made.shape
+
+  pub serves_free : (old new : FarmParts K S) (sent_old sent_new : ℕ) (at : Readings) (before now : WireSeen) (asked : Asked) (result : Option Answer) → ServesAnswer content faults cache_of old new sent_old sent_new at before now asked result → open_at old.requests 0 ≡ None → open_at new.requests 0 ≡ None
+  serves_free old new sent_old sent_new at before now asked None serves none = absurd serves
+  serves_free old new sent_old sent_new at before now asked (Some a) serves none = serves.own.made.closed (serves.housework.closed none)
+
+  pub serves_counts : (old new : FarmParts K S) (sent_old sent_new : ℕ) (at : Readings) (before now : WireSeen) (asked : Asked) (result : Option Answer) → ServesAnswer content faults cache_of old new sent_old sent_new at before now asked result → faults old.keeper ≤ faults new.keeper
+  serves_counts old new sent_old sent_new at before now asked None serves = absurd serves
+  serves_counts old new sent_old sent_new at before now asked (Some a) serves = let x = serves.housework.counts in let y = serves.own.made.counts in omega (arith, x, y)
+
+  -- a request after its housekeeping
+  pub serves_after : (old mid new : FarmParts K S) (sent_old sent_new : ℕ) (at : Readings) (before now : WireSeen) (asked : Asked) (result : Option Answer) → DoesHousework content faults cache_of old mid sent_old sent_new at before now
+      → MakesAnswer content faults cache_of mid new at asked result → ServesAnswer content faults cache_of old new sent_old sent_new at before now asked result
+  serves_after old mid new sent_old sent_new at before now asked None work made = made
+  serves_after old mid new sent_old sent_new at before now asked (Some a) work made = record { middle = mid; housework = work; own = made }

@@ -66,6 +66,11 @@ pub record SendsTo (rows : List LedgerRow) (before now : ℕ) (old new : WireSee
   pub refused : new.refused ≡ counted_if halted old.refused
   pub empty : new.empty ≡ old.empty
 
+-- between two sends
+pub record IsSending (rows : List LedgerRow) (before now : ℕ) (old new : WireSeen) : Type 0 where
+  pub sent : List Taken
+  pub sends : SendsTo rows before now old new sent false
+
 -- The unsent messages were sent, all of them unless one was refused.
 pub record SendsAll (rows : List LedgerRow) (before now : ℕ) (old new : WireSeen) : Type 0 where
   pub sent : List Taken

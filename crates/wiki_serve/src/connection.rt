@@ -77,7 +77,7 @@ pub fn serve_conn<X: Conn, K: Keeper, S: RegionStore<Page>, C: Clock, L: Lots, W
 {
     let mut kept = Vec::new(alloc);
     let mut answered = 0;
-    loop {
+    'requests: loop {
         let arrival = read_arrival(alloc, conn, &mut kept);
         let reaction = serve_arrival(alloc, served, clock, lots, wire, arrival);
         if let Some(end) = respond(alloc, conn, &reaction, answered + 1) {

@@ -8,8 +8,8 @@ use Rattle.wiki_serve.specs.Turns.{StandsSent, unsent_of}
 use Rattle.wiki_serve.specs.Reactions.{desk_of}
 use Rattle.wiki_serve.proofs.connection.serve_conn.Given as goal
 
-abbrev pub invariant-loop-arrival : goal.invariant-loop-arrival
-invariant-loop-arrival g l = record {
+abbrev pub invariant-requests : goal.invariant-requests
+invariant-requests g l = record {
   few : l.answered < 1_000;
   served : MayServeOn (desk_of (g.X.Conn.peer l.fn.conn) l.fn.served.farm)
       (seen_at (conn_seen (g.X.Conn.peer l.fn.conn) (g.X.Source.left l.fn.conn) (g.X.Sink.written l.fn.conn) (g.X.Source.faults l.fn.conn) (g.X.Sink.faults l.fn.conn)) []
@@ -26,5 +26,5 @@ invariant-loop-arrival g l = record {
   counts : g.K.Keeper.faults l.fn.served.farm.keeper ≤ g.K.Keeper.faults l.served.farm.keeper;
 }
 
-abbrev pub decreases-loop-arrival : goal.decreases-loop-arrival
-decreases-loop-arrival g l = 1_000 - l.answered
+abbrev pub decreases-requests : goal.decreases-requests
+decreases-requests g l = 1_000 - l.answered
