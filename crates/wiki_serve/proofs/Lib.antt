@@ -7,3 +7,4 @@ pub mod Calling
 pub mod Looping
 pub mod CallKinds
 pub mod Writing
+pub mod Replying

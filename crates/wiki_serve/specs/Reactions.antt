@@ -180,6 +180,11 @@ Reacts content faults cache_of peer old new sent_old sent_new before now (arriva
 
 -- Writing
 
+-- how the connection ends without a response
+abbrev pub ended_of : Reaction → Option ConnEnd
+ended_of (reaction.Ended end) = Some end
+ended_of _ = None
+
 -- whether the connection ends after the response
 abbrev pub reaction_closes : Reaction → Bool
 reaction_closes (reaction.Ended end) = true
