@@ -3,13 +3,13 @@ ghost use Rattle.std.specs.Prelude.{◌≡◌, ◌++◌, ◌∷◌, length, if�
 ghost use Rattle.std.specs.String.{string_bytes};
 ghost use Rattle.std.specs.Arc.{arc_value};
 ghost use Rattle.wiki_model.specs.Report.{page_of, origin_text};
-ghost use Rattle.wiki_model.specs.Report as stub;
 ghost use Rattle.region_state.specs.AsModel.{answer_of};
 ghost use Rattle.edit_core.specs.AsModel.{saved_of};
 ghost use Rattle.http_reply.specs.Reply.{head_of_length, answer_bytes, text_line};
 ghost use Rattle.http_reply.specs.AsModel.{lines_of, status_of};
 ghost use Rattle.wiki_serve.specs.Replies.{location_of, answer_status, answer_lines, page_lines, saved_lines, answer_reply, text_reply, unserved_reply, source_lines};
 
+use drill_script::{answer_text, origin_text, page_bytes};
 use farm_base::Memory;
 use farm_core::{Answer, Origin, PageAnswer, SavedNote};
 use http_reply::{Reply, Status, answer_bytes, head_of_length};
@@ -211,30 +211,4 @@ pub(crate) fn unserved_bytes(alloc: Global, head: bool, close: bool) -> Result<V
         close,
     };
     answer_bytes(alloc, &reply)
-}
-
-fn answer_text(alloc: Global, with_note: bool, answer: &Answer) -> Result<String, Memory>
-    ensures { IfOk result (λ s. string_bytes s ≡ stub.answer_text with_note (answer_of answer.now)) }
-{
-    let _ = alloc;
-    let _ = with_note;
-    let _ = answer;
-    Err(Memory)
-}
-
-fn origin_text(alloc: Global, origin: Origin) -> Result<String, Memory>
-    ensures { IfOk result (λ s. string_bytes s ≡ origin_text origin) }
-{
-    let _ = alloc;
-    let _ = origin;
-    Err(Memory)
-}
-
-fn page_bytes(answer: &Answer) -> &[u8]
-    ensures { result.now ≡ page_of (answer_of answer.now) }
-{
-    match answer {
-        Answer::Ok(page) => page.page.bytes(),
-        _ => &[],
-    }
 }
