@@ -1,0 +1,11 @@
+mod Lists
+mod Marking
+mod Claiming
+mod Valuing
+mod Steps
+mod Splitting
+mod Joining
+mod Opening
+mod Storing
+mod Truths
+mod Seating

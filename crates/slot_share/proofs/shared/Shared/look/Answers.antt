@@ -1,0 +1,26 @@
+use Rattle.std.proofs.Common.{rules, ◌≡◌, ◌+◌, length, ap}
+use Rattle.slot_cache.specs.Slots.{slot_of}
+use Rattle.wan_value.specs.AsModel.{ask_of}
+use Rattle.slot_share.specs.Calls.{Looks, IsTrueAnswer, IsMetAnswer}
+use Rattle.slot_share.proofs.Truths.{look_tells}
+use Rattle.slot_share.proofs.shared.Shared.look.Given.{Over}
+use Rattle.slot_share.proofs.shared.Shared.look.Goals as goal
+
+told : (g : Over) (c : goal.After-look_claimed g) → Looks g.M.Marker.is_true c.args.seat.now.view c.look_claimed.new.chair.me.0 (slot_of c.args.key.now c.args.self.now.slots) c.args.self.now.hold_off c.args.now (ask_of c.args.ask.now) c.args.key.now c.look_claimed.result
+    × IsTrueAnswer g.M.Marker.is_true c.args.key.now c.look_claimed.result × IsMetAnswer c.look_claimed.new.chair.me.0 c.args.self.now.slots c.args.key.now c.look_claimed.result
+told g c =
+    let long : length c.seat.inside.chair.me.0.marks.seen ≡ c.self.inside.rest.slots + 3 = search rules in
+    look_tells g.M.Marker.is_true c.args.seat.now.view c.seat.inside.chair.me.0 c.load_marks-loaded.new.chair.me.0 c.look_claimed.new.chair.me.0
+    c.args.self.now.slots c.self.inside.rest.slots c.claim_for-at.result.slot c.args.self.now.hold_off c.self.inside.rest.hold_off c.args.now
+    c.load_marks-loaded.result c.times-times.result (ask_of c.args.ask.now) c.args.key.now c.look_claimed.result
+    (ap (λ s. s.view) c.seat.view_is) (ap (λ s. s.slots) c.self.view_is) (ap (λ s. s.hold_off) c.self.view_is)
+    c.claim_for-at.ensures.slot c.claim_for-at.ensures.below long (ap (λ m. m.0) c.load_marks-loaded.ensures.seat) c.times-times.ensures c.load_marks-loaded.ensures.least c.look_claimed.ensures.answers
+
+pub returns-clause-looks : goal.returns-clause-looks
+returns-clause-looks g c = (told g c).0
+
+pub returns-clause-truth : goal.returns-clause-truth
+returns-clause-truth g c = (told g c).1
+
+pub returns-clause-met : goal.returns-clause-met
+returns-clause-met g c = (told g c).2
