@@ -1,9 +1,10 @@
 -- How a cache is shared, and what it is when it comes back.
-use Rattle.std.specs.Prelude.{ℕ, ◌≡◌, ◌⊎◌, ◌<◌, ◌≤◌, List, All, map, length, slice_index, Contains, Some}
+use Rattle.std.specs.Prelude.{ℕ, ◌≡◌, ◌⊎◌, ◌<◌, ◌≤◌, List, ◌∷◌, All, map, length, slice_index, Contains, Some}
 use Rattle.wiki_model.specs.Titles.{Title}
 use Rattle.wiki_model.specs.Cache.{CacheMap, Cached}
 use Rattle.wan_value.specs.declared.Value.{Value}
 use Rattle.wan_value.specs.AsModel.{value_of}
+use Rattle.slot_cache.specs.declared.slot_parts.SlotParts.{SlotParts}
 use Rattle.slot_cache.specs.Slots.{slot_of}
 use Rattle.slot_cache.specs.SlotCache.{SlotState}
 use Rattle.slot_cache.specs.AsModel.{map_of}
@@ -15,6 +16,10 @@ use Rattle.slot_share.specs.Shares.{ShareState, SeatState}
 use Rattle.slot_share.specs.Calls.{HasMet}
 
 module _ {P : Type 0} where
+  -- the marks of a cache that is taken apart
+  abbrev pub marks_in : SlotParts P → List ℕ
+  marks_in parts = 0 ∷ parts.template_check ∷ parts.message_check ∷ parts.floors.items
+
   -- the cache that was shared, as it was
   abbrev pub lent_state : ShareState P → SlotState P
   lent_state share = record {

@@ -54,6 +54,7 @@ pub(crate) struct View<P> {
 }
 
 /// What stood at sharing.
+#[derive(Drop)]
 pub(crate) struct Start<P> {
     pub(crate) floors: Snapshot<Vec<Moment>>,
     pub(crate) template_check: Moment,
