@@ -24,7 +24,7 @@ use Rattle.slot_share.proofs.Lists.{on_set, here_set, map_set, none_in}
 use Rattle.slot_share.proofs.Marking.{greatest_set}
 use Rattle.slot_share.proofs.Splitting.{parts_set, rank_claims, good_over}
 
-higher_at : (xs ys : List ℕ) (i : ℕ) → slice_index (higher xs ys) i ≡ max (slice_index xs i) (slice_index ys i)
+pub higher_at : (xs ys : List ℕ) (i : ℕ) → slice_index (higher xs ys) i ≡ max (slice_index xs i) (slice_index ys i)
 higher_at [] ys i = let a : ℕ = slice_index ys i in omega arith
 higher_at (x ∷ xs) [] i = let a : ℕ = slice_index (x ∷ xs) i in omega arith
 higher_at (x ∷ xs) (y ∷ ys) zero = refl

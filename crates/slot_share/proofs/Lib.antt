@@ -7,5 +7,8 @@ mod Splitting
 mod Joining
 mod Opening
 mod Storing
+mod ClosesAs
+mod Taking
+mod Gathering
 mod Truths
 mod Seating

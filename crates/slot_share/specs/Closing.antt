@@ -1,17 +1,23 @@
 -- How a cache is shared, and what it is when it comes back.
-use Rattle.std.specs.Prelude.{ℕ, ◌≡◌, ◌⊎◌, ◌<◌, ◌≤◌, List, ◌∷◌, All, map, length, slice_index, Contains, Some}
+use Rattle.std.specs.Prelude.{ℕ, ◌≡◌, ◌⊎◌, ◌+◌, ◌<◌, ◌≤◌, List, ◌∷◌, All, map, length, slice_get, slice_index, slice_set, [], ◌++◌, Contains, Some}
+use mathlib.Core.Option as home
+use lib.ListN.{get_elem?}
 use Rattle.wiki_model.specs.Titles.{Title}
 use Rattle.wiki_model.specs.Cache.{CacheMap, Cached}
 use Rattle.wan_value.specs.declared.Value.{Value}
 use Rattle.wan_value.specs.AsModel.{value_of}
 use Rattle.slot_cache.specs.declared.slot_parts.SlotParts.{SlotParts}
 use Rattle.slot_cache.specs.Slots.{slot_of}
+use Rattle.slot_cache.specs.SlotRow.{not_before}
 use Rattle.slot_cache.specs.SlotCache.{SlotState}
 use Rattle.slot_cache.specs.AsModel.{map_of}
 use Rattle.slot_share.specs.declared.part.Part.{Part}
 use Rattle.slot_share.specs.declared.part.Part.TheVariants.{Main, Interim}
+use Rattle.slot_share.specs.declared.view.Handed.{Handed}
+use Rattle.slot_share.specs.declared.view.Met.{Met}
+use Rattle.slot_share.specs.declared.view.View.{View}
 use Rattle.slot_share.specs.Marks.{template_word, message_word, floor_word, greatest, made_at, seen_at}
-use Rattle.slot_share.specs.Values.{Truth}
+use Rattle.slot_share.specs.Values.{Truth, Row}
 use Rattle.slot_share.specs.Shares.{ShareState, SeatState}
 use Rattle.slot_share.specs.Calls.{HasMet}
 
@@ -92,3 +98,46 @@ module _ {P : Type 0} where
     pub greatest_is : new.greatest ≡ now
     pub slots_are : new.slots ≡ share.slots
     pub hold_off_is : new.hold_off ≡ share.hold_off
+
+  -- Steps of closing
+
+  -- what a seat knows that has taken these in
+  pub record Gathers (seats : List (SeatState P)) (view : View P) : Type 0 where
+    pub made : (word : ℕ) → made_at word view.marks ≡ greatest 0 (map (made_by word) seats)
+    pub seen : (seat : SeatState P) (word : ℕ) → Contains seats seat → seen_at word seat.view.marks ≤ seen_at word view.marks
+    pub handed : (kept : Handed P) → Contains view.handed kept
+        → (seat : SeatState P) × Contains seats seat × Contains seat.view.handed kept
+    pub met : (seat : SeatState P) (met : Met P) → Contains seats seat → Contains seat.view.met met → Contains view.met met
+
+  -- a row whose floor is this: a main value from before it may be gone
+  abbrev pub IsLowered : (floor : ℕ) → (old new : Row P) → Type 0
+  IsLowered floor old new = (new.value ≡ old.value) ⊎ (new.value ≡ record old.value { main = not_before floor old.value.main })
+
+  -- all but floors and rows
+  pub record SameNumbers (old new : SlotParts P) : Type 0 where
+    pub slots : new.slots ≡ old.slots
+    pub template : new.template_check ≡ old.template_check
+    pub message : new.message_check ≡ old.message_check
+    pub greatest : new.greatest ≡ old.greatest
+    pub hold_off : new.hold_off ≡ old.hold_off
+
+  -- the floors and rows of this many slots are those of the table
+  pub record IsTakenBack (count : ℕ) (words : List ℕ) (lent : List (Row P)) (old new : SlotParts P) : Type 0 where
+    pub same : SameNumbers old new
+    pub floors_long : length new.floors.items ≡ length old.floors.items
+    pub rows_long : length new.rows.items ≡ count
+    pub floors : (slot : ℕ) → slot < count → get_elem? words (slot + 3) ≡ home.some (slice_index new.floors.items slot)
+    pub rows : (slot : ℕ) (row : Row P) → slice_get new.rows.items slot ≡ Some row
+        → (was : Row P) × (get_elem? lent slot ≡ home.some was) × IsLowered (slice_index new.floors.items slot) was row
+
+  -- the floor and the row of one slot more
+  pub record TakesRow (words : List ℕ) (lent : List (Row P)) (slot : ℕ) (old new : SlotParts P) : Type 0 where
+    pub floor : ℕ
+    pub was : Row P
+    pub row : Row P
+    pub word : get_elem? words (slot + 3) ≡ home.some floor
+    pub there : get_elem? lent slot ≡ home.some was
+    pub lowered : IsLowered floor was row
+    pub floors : new.floors.items ≡ slice_set old.floors.items slot floor
+    pub rows : new.rows.items ≡ old.rows.items ++ row ∷ []
+    pub same : SameNumbers old new

@@ -40,6 +40,7 @@ module _ {P : Type 0} where
     pub slots_are : share.slots ≡ slots_of share.start
     pub size_is : size_of share.start ≡ share.slots + 3
     pub some : 0 < share.slots
+    pub any : 0 < share.start.seats
     pub seats : share.start.seats ≤ seats_max
     pub short : share.hold_off ≤ hold_off_max
 

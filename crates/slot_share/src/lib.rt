@@ -1,6 +1,7 @@
 //! Threads that share one cache.
 #![tactic(auto)]
 
+mod close_cache;
 mod marker;
 mod part;
 mod seat_steps;
