@@ -6,11 +6,14 @@ use native.Mathlib.Decide.{ℕ_discrete}
 use Rattle.std.proofs.lemmas.Bool.Decides.{nat_tests}
 use Rattle.std.proofs.lemmas.List.{get_or-set_same, get_or-set_other, length-set}
 use Rattle.wiki_model.specs.declared.Cause.{Cause}
+use Rattle.wiki_model.specs.declared.Cause.TheVariants as cause
 use Rattle.wiki_model.specs.declared.Stale.{Stale}
 use Rattle.wiki_model.specs.declared.Stale.TheVariants as stale
 use Rattle.wiki_model.specs.Titles.{Title}
 use Rattle.wiki_model.specs.Cache as model
 use Rattle.wiki_model.specs.Cache.{Cached, Ask, Found, found, found_held, found_free, hit_unless, not_below, is_held, passes, staleness, held_cause, cause_of}
+use Rattle.wiki_model.specs.declared.Put.{Put}
+use Rattle.wiki_model.specs.declared.Put.TheVariants as put
 use Rattle.wan_value.specs.declared.Value.{Value}
 use Rattle.wan_value.specs.AsModel.{value_of}
 use Rattle.wan_cache.specs.declared.find_value.LookTimes.{LookTimes}
@@ -26,7 +29,7 @@ use Rattle.slot_share.specs.declared.seat_steps.LoadedMarks.{LoadedMarks}
 use Rattle.slot_share.specs.Marks.{floor_word, seen_at}
 use Rattle.slot_share.specs.Values.{Truth, Row, IsIn, Counts}
 use Rattle.slot_share.specs.Steps.{slots_by, met_row}
-use Rattle.slot_share.specs.Calls.{AnswersLook, IsTrueAnswer, IsMetAnswer, IsTimely, Looks, AreAtLeast, found_in_row, with_loaded, times_of, check_of}
+use Rattle.slot_share.specs.Calls.{AnswersLook, AnswersPut, TellsPut, with_noted, IsTrueAnswer, IsBusy, IsMetAnswer, IsTimely, Looks, AreAtLeast, found_in_row, with_loaded, times_of, check_of}
 use Rattle.slot_share.proofs.Storing.{shows}
 use Rattle.slot_share.proofs.Lists.{first_in}
 
@@ -35,6 +38,21 @@ floor_loaded : (seen : List ℕ) (slot floor template message : ℕ) → slot + 
 floor_loaded seen slot floor template message l =
     get_or-set_other (set (set seen (slot + 3) floor) 1 template) 2 (slot + 3) message 0 (λ e. omega (arith, e))
     ∙ (get_or-set_other (set seen (slot + 3) floor) 1 (slot + 3) template 0 (λ e. omega (arith, e)) ∙ get_or-set_same seen (slot + 3) floor 0 l)
+
+free_cause : (o : Stale) (holder : ℕ) → cause_of o ≢ cause.Busy holder
+free_cause (stale.Purged floor) holder e = (cc)
+free_cause (stale.Checked check) holder e = (cc)
+free_cause (stale.Expired at) holder e = (cc)
+free_cause stale.Epoch holder e = (cc)
+free_cause stale.Version holder e = (cc)
+free_cause (stale.Position have) holder e = (cc)
+
+free_held_cause : (floor check now holder : ℕ) → held_cause floor check now ≢ cause.Busy holder
+free_held_cause floor check now holder = by (nat_lt now floor)
+  where
+    by : (b : Bool) → cond b (cause.Purged floor) (cause.Checked check) ≢ cause.Busy holder
+    by true e = (cc)
+    by false e = (cc)
 
 module _ {P : Type 0} where
   -- what a found value says of where it stood
@@ -97,6 +115,80 @@ module _ {P : Type 0} where
       by : (b : Bool) → Late floor check (cond b (found_held hold_off floor check now ask interim) (found_free floor check now ask main))
       by true = late_held hold_off floor check now ask interim
       by false = late_free floor check now ask main
+
+  -- what a row shows is never that it is busy
+  abbrev Free : Found P → Type 0
+  Free (model.Hit v) = Unit {0}
+  Free (model.Interim v) = Unit {0}
+  Free (model.Missed why) = (holder : ℕ) → why ≢ cause.Busy holder
+
+  free_held : (hold_off floor check now : ℕ) (ask : Ask) (interim : Option (Cached P)) → Free (found_held hold_off floor check now ask interim)
+  free_held hold_off floor check now ask None = free_held_cause floor check now
+  free_held hold_off floor check now ask (Some v) = by (passes hold_off floor check now ask v)
+    where
+      by : (b : Bool) → Free (cond b (model.Interim v) (model.Missed (held_cause floor check now)))
+      by true = tt
+      by false = free_held_cause floor check now
+
+  free_free : (floor check now : ℕ) (ask : Ask) (main : Option (Cached P)) → Free (found_free floor check now ask main)
+  free_free floor check now ask None = λ holder e. (cc)
+  free_free floor check now ask (Some v) = by (staleness v now floor check ask)
+    where
+      by : (o : Option Stale) → Free (hit_unless v o)
+      by None = tt
+      by (Some why) = free_cause why
+
+  free : (hold_off floor check now : ℕ) (ask : Ask) (main interim : Option (Cached P)) → Free (found hold_off floor check now ask main interim)
+  free hold_off floor check now ask main interim = by (is_held floor check now)
+    where
+      by : (b : Bool) → Free (cond b (found_held hold_off floor check now ask interim) (found_free floor check now ask main))
+      by true = free_held hold_off floor check now ask interim
+      by false = free_free floor check now ask main
+
+  same_busy : (a b : ℕ) (answer : Look P) → answer ≡ look.Miss (cause.Busy a) → answer ≡ look.Miss (cause.Busy b) → a ≡ b
+  same_busy a b answer e f = (cc)
+
+  -- what a busy look tells
+  pub busy_tells : (is_true : Truth P) (old old_in v new : View P) (slots slots_in slot hold_in now : ℕ) (m : LoadedMarks) (times : LookTimes) (ask : Ask) (key : Title) (answer : Look P)
+      → old_in ≡ old → slots_in ≡ slots → slot ≡ slot_of key slots_in → v ≡ with_loaded old_in slot m → ((found : ℕ) × AnswersLook is_true v new slot found times ask key answer)
+      → (holder : ℕ) → answer ≡ look.Miss (cause.Busy holder) → IsBusy old new (slot_of key slots) holder
+  busy_tells is_true old old_in v new slots slots_in slot hold_in now m times ask key answer old_is slots_are at v_is a holder is =
+      subst (λ (x : View P × ℕ). IsBusy x.0 new x.1 holder) (λ i. (old_is i, (at ∙ ap (slot_of key) slots_are) i)) (dite (ℕ_discrete a.0 0)
+      (λ (z : a.0 ≡ 0).
+      let f = a.1.free z in
+      let row = f.0 in
+      absurd (subst (λ (x : Look P). IsFound x (found_in_row times ask row key) → ⊥) (sym is)
+      (λ e. subst Free e (free times.hold_off times.floor times.check times.at ask (not_below times.floor (shown (main_of row.value key))) (shown (interim_of row.value key))) holder refl) f.3))
+      (λ (n : a.0 ≢ 0).
+      let b = a.1.busy n in
+      let same : a.0 ≡ holder = same_busy a.0 holder answer b.1 is in
+      let rank : v.rank ≡ old_in.rank = ap (λ (w : View P). w.rank) v_is in
+      record {
+        claims = ap (λ (w : View P). w.claims) b.0 ∙ ap (λ (w : View P). w.claims + 1) v_is;
+        last_slot = ap (λ (w : View P). w.last_slot) b.0;
+        last_found = ap (λ (w : View P). w.last_found) b.0 ∙ same;
+        some = λ e. n (same ∙ e);
+        other = λ e. b.2 (same ∙ (e ∙ ap (λ r. r.number) (sym rank)));
+        within = subst (λ (x : ℕ × ℕ). x.0 ≤ x.1) (λ i. (same i, (rank i).seats)) b.3;
+      }))
+
+  -- what a busy put tells
+  pub put_busy : (old new : View P) (slot : ℕ) (key : Title) (value : Value P) (answer : Put) → TellsPut old new slot key value answer → (holder : ℕ) → answer ≡ put.Busy holder → IsBusy old new slot holder
+  put_busy old new slot key value answer h holder is =
+      let a : AnswersPut (with_noted old slot h.marks (record { key = key; value = value })) new slot h.marks value (put.Busy holder)
+      = subst (AnswersPut (with_noted old slot h.marks (record { key = key; value = value })) new slot h.marks value) is h.answers in
+      record {
+        claims = ap (λ (w : View P). w.claims) a.0;
+        last_slot = ap (λ (w : View P). w.last_slot) a.0;
+        last_found = ap (λ (w : View P). w.last_found) a.0;
+        some = a.1;
+        other = a.2;
+        within = a.3;
+      }
+
+  -- a seat alone is never busy
+  pub never_busy : (old new : View P) (slot holder : ℕ) → old.rank.seats ≡ 1 → 0 < old.rank.number → old.rank.number ≤ old.rank.seats → IsBusy old new slot holder → ⊥
+  never_busy old new slot holder one some within h = let a = h.some in let b = h.other in let c = h.within in omega (arith, one, some, within, a, b, c)
 
   above : (floor : ℕ) (o : Option (Cached P)) (v : Cached P) → not_below floor o ≡ Some v → o ≡ Some v
   above floor None v e = absurd (cc)

@@ -1,5 +1,5 @@
 -- What a call with a seat tells: how the seat's view changes, and what is answered.
-use Rattle.std.specs.Prelude.{ℕ, ◌≡◌, ◌≢◌, ◌<◌, ◌≤◌, max, ◌∷◌, Contains}
+use Rattle.std.specs.Prelude.{ℕ, ◌≡◌, ◌≢◌, ◌+◌, ◌<◌, ◌≤◌, max, ◌∷◌, Contains}
 use Rattle.wiki_model.specs.declared.Class.{Class}
 use Rattle.wiki_model.specs.declared.Class.TheVariants.{Plain, Template, Message}
 use Rattle.wiki_model.specs.declared.Put.{Put}
@@ -117,6 +117,15 @@ module _ {P : Type 0} where
     pub is_in : IsIn p met.row (record { key = key; value = value })
     pub shows : value_of value ≡ cached
 
+  -- A call met another seat's claim: its one claim, of this slot, found that seat's number.
+  pub record IsBusy (old new : View P) (slot holder : ℕ) : Type 0 where
+    pub claims : new.claims ≡ old.claims + 1
+    pub last_slot : new.last_slot ≡ slot
+    pub last_found : new.last_found ≡ holder
+    pub some : holder ≢ 0
+    pub other : holder ≢ old.rank.number
+    pub within : holder ≤ old.rank.seats
+
   -- the seat met what is answered
   abbrev pub IsMetAnswer : View P → (slots : ℕ) → Title → Look P → Type 0
   IsMetAnswer view slots key (look.Hit value) = HasMet view slots part.Main key (value_of value)
@@ -129,7 +138,8 @@ module _ {P : Type 0} where
   AnswersPut old new slot m value (put.Busy holder) =
       (new ≡ tried old slot holder) × (holder ≢ 0) × (holder ≢ old.rank.number) × (holder ≤ old.rank.seats)
   AnswersPut old new slot m value put.Main =
-      ((row : Row P) × (new ≡ met_row old slot row)) × (put.Main ≡ placed m.floor (check_of m) value.set_at value.lagged)
+      ((row : Row P) × (new ≡ met_row old slot row))
+      × (put.Main ≡ placed m.floor (check_of m) value.set_at value.lagged)
   AnswersPut old new slot m value put.Interim =
       ((row : Row P) × (new ≡ met_row old slot row))
       × (put.Interim ≡ placed m.floor (check_of m) value.set_at value.lagged)
@@ -141,4 +151,5 @@ module _ {P : Type 0} where
   pub record TellsPut (old new : View P) (slot : ℕ) (key : Title) (value : Value P) (answer : Put) : Type 0 where
     pub marks : LoadedMarks
     pub least : AreAtLeast old slot marks
-    pub answers : AnswersPut (with_noted old slot marks (record { key = key; value = value })) new slot marks value answer
+    pub answers : AnswersPut (with_noted old slot marks (record { key = key; value = value })) new slot marks value
+        answer

@@ -44,7 +44,8 @@ module _ {P : Type 0} where
 
   -- each value that the cache shows is true in its place
   abbrev pub AllTrueIn : Truth P → CacheMap P → Type 0
-  AllTrueIn is_true cache = (p : Part) (key : Title) (cached : Cached P) → place_of p cache key cached → is_true p key cached
+  AllTrueIn is_true cache =
+      (p : Part) (key : Title) (cached : Cached P) → place_of p cache key cached → is_true p key cached
 
   -- all seats of the share come back, and no call was given a later moment
   pub record AreAllSeats (share : ShareState P) (seats : List (SeatState P)) (now : ℕ) : Type 0 where
@@ -73,8 +74,8 @@ module _ {P : Type 0} where
   IsAbove floor Interim cached = Unit {0}
 
   -- What the seats did is in the cache that comes back.
-  pub record Closes (is_true : Truth P) (share : ShareState P) (seats : List (SeatState P)) (now : ℕ) (new : SlotState P)
-      : Type 0 where
+  pub record Closes (is_true : Truth P) (share : ShareState P) (seats : List (SeatState P)) (now : ℕ)
+      (new : SlotState P) : Type 0 where
     -- each floor and check is the greatest of the one at sharing and those that the seats made
     pub floors : (slot : ℕ) → slot < share.slots → slice_index new.floors slot
         ≡ greatest (slice_index share.start.floors.value.items slot) (map (made_by (floor_word slot)) seats)
@@ -104,14 +105,17 @@ module _ {P : Type 0} where
   -- what a seat knows that has taken these in
   pub record Gathers (seats : List (SeatState P)) (view : View P) : Type 0 where
     pub made : (word : ℕ) → made_at word view.marks ≡ greatest 0 (map (made_by word) seats)
-    pub seen : (seat : SeatState P) (word : ℕ) → Contains seats seat → seen_at word seat.view.marks ≤ seen_at word view.marks
+    pub seen : (seat : SeatState P) (word : ℕ) → Contains seats seat
+        → seen_at word seat.view.marks ≤ seen_at word view.marks
     pub handed : (kept : Handed P) → Contains view.handed kept
         → (seat : SeatState P) × Contains seats seat × Contains seat.view.handed kept
-    pub met : (seat : SeatState P) (met : Met P) → Contains seats seat → Contains seat.view.met met → Contains view.met met
+    pub met : (seat : SeatState P) (met : Met P) → Contains seats seat → Contains seat.view.met met
+        → Contains view.met met
 
   -- a row whose floor is this: a main value from before it may be gone
   abbrev pub IsLowered : (floor : ℕ) → (old new : Row P) → Type 0
-  IsLowered floor old new = (new.value ≡ old.value) ⊎ (new.value ≡ record old.value { main = not_before floor old.value.main })
+  IsLowered floor old new =
+      (new.value ≡ old.value) ⊎ (new.value ≡ record old.value { main = not_before floor old.value.main })
 
   -- all but floors and rows
   pub record SameNumbers (old new : SlotParts P) : Type 0 where

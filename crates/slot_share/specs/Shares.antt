@@ -55,6 +55,7 @@ module _ {P : Type 0} where
     pub number_is : number ≡ me.0.rank.number
     pub positive : 0 < number
     pub parts : me.0.rank.parts ≡ 1
+    pub within : number ≤ me.0.rank.seats
     pub few : me.0.rank.seats ≤ seats_max
     pub holds : me.0.holds ≡ None
     pub carries : me.1 ≡ []

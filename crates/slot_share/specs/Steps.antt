@@ -40,8 +40,12 @@ module _ {P : Type 0} where
   tried v slot found = record v { claims = v.claims + 1; last_slot = slot; last_found = found }
 
   abbrev pub met_row : View P → (slot : ℕ) → Row P → View P
-  met_row v slot row =
-      record v { claims = v.claims + 1; last_slot = slot; last_found = 0; met = (record { slot = slot; row = row }) ∷ v.met }
+  met_row v slot row = record v {
+    claims = v.claims + 1;
+    last_slot = slot;
+    last_found = 0;
+    met = (record { slot = slot; row = row }) ∷ v.met;
+  }
 
   abbrev pub took : View P → (slot : ℕ) → Row P → View P
   took v slot row = record (met_row v slot row) { holds = Some slot }

@@ -75,7 +75,8 @@ fn take_rows<P: Drop>(closed: &mut Closed<Row<P>, Global>, parts: &mut SlotParts
     requires rows { (slots_len closed.old.slots ≡ parts.old.slots) × IsFull closed.old.slots }
     requires floors { length parts.old.floors.items ≡ parts.old.slots }
     requires room { (parts.old.rows.items ≡ []) × (parts.old.slots ≤ parts.old.rows.cap) }
-    ensures emptied { (k : ℕ) → k < slots_len closed.new.slots → slice_index_or (slots_filled closed.new.slots) k false ≡ false }
+    ensures emptied { (k : ℕ) → k < slots_len closed.new.slots
+        → slice_index_or (slots_filled closed.new.slots) k false ≡ false }
     ensures taken { IsTakenBack parts.old.slots (slots_items closed.old.words) (slots_items closed.old.slots)
         parts.old parts.new }
 {
@@ -91,7 +92,8 @@ fn take_row<P: Drop>(closed: &mut Closed<Row<P>, Global>, parts: &mut SlotParts<
         × (slice_index_or (slots_filled closed.old.slots) slot false ≡ true) }
     requires floor { slot < length parts.old.floors.items }
     requires room { length parts.old.rows.items < parts.old.rows.cap }
-    ensures closed { (closed.new.words ≡ closed.old.words) × (slots_items closed.new.slots ≡ slots_items closed.old.slots)
+    ensures closed { (closed.new.words ≡ closed.old.words)
+        × (slots_items closed.new.slots ≡ slots_items closed.old.slots)
         × (slots_len closed.new.slots ≡ slots_len closed.old.slots)
         × (slots_filled closed.new.slots ≡ slice_set (slots_filled closed.old.slots) slot false) }
     ensures room { parts.old.rows.cap ≤ parts.new.rows.cap }

@@ -1,6 +1,4 @@
 // Which values are true.
-use std::marker::Brand;
-
 /// Which values are true for a key, as its main and as its interim value. It has no code: a caller picks what true
 /// means to it, a share takes only values that are, and so whatever comes out of it is true in that sense.
 pub trait Marker<P>: Send + Sync {
@@ -11,7 +9,9 @@ pub trait Marker<P>: Send + Sync {
     ghost is_true: { Part → Title → Cached P → Type 0 };
 }
 
-/// A caller that asks nothing of its values.
-impl<P> Marker<P> for Brand {
+/// The marker of a caller that asks nothing of its values.
+pub struct AnyValue;
+
+impl<P> Marker<P> for AnyValue {
     ghost is_true = { λ part key value. Unit {0} };
 }

@@ -1,3 +1,4 @@
+// Where a value stands.
 /// The two places of a slot.
 pub enum Part {
     /// What is shown while the slot is free.

@@ -211,7 +211,8 @@ pub(crate) fn put_claimed<P: Drop, M: Marker<P>>(
     requires main { M.is_true part.Main key.now (value_of value) }
     requires interim { value.lagged ≡ false → M.is_true part.Interim key.now (value_of value) }
     requires handed { Contains chair.old.me.0.handed (record { key = key.now; value = value }) }
-    requires free { (until : ℕ) → placed loaded.now.floor (check_of loaded.now) value.set_at value.lagged ≢ Put.Held until }
+    requires free { (until : ℕ)
+        → placed loaded.now.floor (check_of loaded.now) value.set_at value.lagged ≢ Put.Held until }
     ensures same { chair.new.table_id ≡ chair.old.table_id }
     ensures rank { chair.new.me.0.rank ≡ chair.old.me.0.rank }
     ensures marks { chair.new.me.0.marks ≡ chair.old.me.0.marks }

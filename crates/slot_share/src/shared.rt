@@ -1,11 +1,11 @@
 // What threads do with a cache that they share: each with a seat of its own.
-ghost use Rattle.std.specs.Prelude.{◌≡◌, ◌≢◌, ◌≤◌, ◌+◌, false, max};
+ghost use Rattle.std.specs.Prelude.{◌≡◌, ◌≢◌, ◌≤◌, ◌+◌, ℕ, false, max};
 ghost use Rattle.wiki_model.specs.Limits.{greatest_moment};
 ghost use Rattle.wan_value.specs.AsModel.{value_of, ask_of};
 ghost use Rattle.slot_cache.specs.Slots.{slot_of};
 ghost use Rattle.slot_share.specs.declared.part.Part.TheVariants as part;
 ghost use Rattle.slot_share.specs.Marks.{floor_word};
-ghost use Rattle.slot_share.specs.Calls.{word_of_class, IsRaised, Looks, IsTrueAnswer, IsMetAnswer, TellsPut};
+ghost use Rattle.slot_share.specs.Calls.{word_of_class, IsRaised, Looks, IsTrueAnswer, IsMetAnswer, IsBusy, TellsPut};
 
 use crate::marker::Marker;
 use crate::seat_steps::{
@@ -14,10 +14,11 @@ use crate::seat_steps::{
 use crate::table_steps::{Chair, OwnedTable};
 use slot_cache::{SlotParts, slot_of};
 use std::marker::{Model, PhantomData};
-use wan_cache::{Ask, Class, Look, Moment, Put, Value, placed};
+use wan_cache::{Ask, Cause, Class, Look, Moment, Put, Value, placed};
 use wiki_titles::Title;
 
 /// A cache that threads share, for values that `M` says are true. The cache's content is in here until `close`.
+#[derive(Drop)]
 pub struct Shared<M: Marker<P>, P> {
     /// The floors, the checks, the claims and the rows.
     pub(crate) table: OwnedTable<M, P>,
@@ -68,16 +69,28 @@ impl<M, P> Model for CacheSeat<M, P> {
     ghost invariant = { λ s. IsSeat s.chair.table_id s.chair.me s.number };
 }
 
+impl<M, P> CacheSeat<M, P> {
+    /// The greatest moment that a call was given, on the cache before it was shared, or with this seat.
+    pub fn greatest(&self) -> Moment
+        ensures { result ≡ self.now.greatest }
+    {
+        self.greatest
+    }
+}
+
 impl<P: Drop, M: Marker<P>> Shared<M, P> {
-    /// What is there for the key. It loads the floor and the checks, tries one claim of the slot, and answers by what it
-    /// loaded and found. `Busy` names the seat whose number the claim found. It waits for nobody.
+    /// What is there for the key. It loads the floor and the checks, tries one claim of the slot, and answers by what
+    /// it loaded and found. `Busy` names the seat whose number the claim found. It waits for nobody.
     pub fn look(&self, seat: &mut CacheSeat<M, P>, key: &Title, now: Moment, ask: &Ask) -> Look<P>
         requires mine { seat.old.table ≡ self.now.table }
         ensures mine { seat.new.table ≡ seat.old.table }
-        ensures looks { Looks M.is_true seat.old.view seat.new.view (slot_of key.now self.now.slots) self.now.hold_off now
-            (ask_of ask.now) key.now result }
+        ensures looks { Looks M.is_true seat.old.view seat.new.view (slot_of key.now self.now.slots) self.now.hold_off
+            now (ask_of ask.now) key.now result }
         ensures truth { IsTrueAnswer M.is_true key.now result }
         ensures met { IsMetAnswer seat.new.view self.now.slots key.now result }
+        ensures busy { (holder : ℕ) → result ≡ Look.Miss (Cause.Busy holder)
+            → IsBusy seat.old.view seat.new.view (slot_of key.now self.now.slots) holder }
+        ensures alone { seat.old.view.rank.seats ≡ 1 → (holder : ℕ) → result ≢ Look.Miss (Cause.Busy holder) }
         ensures greatest { seat.new.greatest ≡ max seat.old.greatest now }
     {
         seat.greatest = seat.greatest.later(now);
@@ -91,12 +104,16 @@ impl<P: Drop, M: Marker<P>> Shared<M, P> {
     /// is lagged, it tries no claim; else it tries one, and `Busy` names the seat whose number the claim found. The
     /// value must be true as a main value, and if it is not lagged as an interim one. It takes no memory and waits for
     /// nobody.
+    #[tactic(auto, using(crate::proofs::Truths::put_busy, crate::proofs::Truths::never_busy))]
     pub fn put(&self, seat: &mut CacheSeat<M, P>, key: &Title, value: Value<P>) -> Put
         requires mine { seat.old.table ≡ self.now.table }
         requires main { M.is_true part.Main key.now (value_of value) }
         requires interim { value.lagged ≡ false → M.is_true part.Interim key.now (value_of value) }
         ensures mine { seat.new.table ≡ seat.old.table }
         ensures tells { TellsPut seat.old.view seat.new.view (slot_of key.now self.now.slots) key.now value result }
+        ensures busy { (holder : ℕ) → result ≡ Put.Busy holder
+            → IsBusy seat.old.view seat.new.view (slot_of key.now self.now.slots) holder }
+        ensures alone { seat.old.view.rank.seats ≡ 1 → (holder : ℕ) → result ≢ Put.Busy holder }
         ensures greatest { seat.new.greatest ≡ max seat.old.greatest value.set_at }
     {
         seat.greatest = seat.greatest.later(value.set_at);

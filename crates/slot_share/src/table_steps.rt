@@ -223,7 +223,8 @@ pub(crate) fn claim<P, M: Marker<P>>(
     ensures same { chair.new.table_id ≡ chair.old.table_id }
     ensures busy { result ≢ 0 → (chair.new.me ≡ (tried chair.old.me.0 slot result, chair.old.me.1))
         × (result ≢ number) × (result ≤ chair.old.me.0.rank.seats) }
-    ensures free { result ≡ 0 → (row : _) × (chair.new.me ≡ (took chair.old.me.0 slot row, (slot, row) ∷ chair.old.me.1))
+    ensures free { result ≡ 0 → (row : _)
+        × (chair.new.me ≡ (took chair.old.me.0 slot row, (slot, row) ∷ chair.old.me.1))
         × TrueBy M.is_true chair.old.me.0.marks slot row }
 {
     table.compare_exchange::<ClaimPlay<M>>(chair, word, 0, number)
