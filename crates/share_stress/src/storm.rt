@@ -1,11 +1,12 @@
 // Eight threads at once.
-ghost use Rattle.std.specs.Prelude.{◌≡◌, ◌<◌, ◌≤◌, ◌+◌, [], All, IfOk, length};
-ghost use Rattle.slot_share.specs.Closing.{AreAllSeats};
+ghost use Rattle.std.specs.Prelude.{◌≡◌, ◌≤◌, All, IfOk, length};
+ghost use Rattle.wiki_model.specs.Limits.{greatest_moment};
+ghost use Rattle.slot_cache.specs.AsModel.{map_of};
 
 use crate::worker::{HOLD_OFF, Known, Worker, work};
-use farm_base::Moment;
+use farm_base::{Memory, Moment};
 use rand_pcg::Pcg32;
-use slot_cache::{SLOTS_MIN, SlotCache, slot_of};
+use slot_cache::{SLOTS_MIN, SlotCache};
 use slot_share::{AnyValue, CacheSeat, Shared, share};
 use std::alloc::{AllocError, Global};
 use std::sync::atomic::AtomicU64;
@@ -86,4 +87,93 @@ fn work_all<R: Threads + Sync>(
             ensures { worker.exit.now.seat.table ≡ shared.now.table }
         { work(alloc, shared, worker, keys, clock) },
     );
+}
+
+// What all workers saw, and their seats.
+fn seats_of(
+    alloc: Global,
+    workers: Vec<Worker>,
+    shared: &Shared<AnyValue, u64>,
+) -> Result<(Vec<CacheSeat<AnyValue, u64>>, Sums), AllocError>
+    requires mine { All (λ worker. worker.seat.table ≡ shared.now.table) workers.items }
+    ensures mine { IfOk result (λ t. All (λ seat. seat.table ≡ shared.now.table) t.0.items) }
+    ensures count { IfOk result (λ t. length t.0.items ≡ length workers.items) }
+{
+    let _ = shared;
+    let mut workers = workers;
+    let mut seats = Vec::new(alloc);
+    let mut sums = Sums {
+        hits: 0,
+        wrong: 0,
+        first: 0,
+        second: 0,
+    };
+    while let Some(worker) = workers.pop() {
+        sums = Sums {
+            hits: sums.hits.saturating_add(worker.hits),
+            wrong: sums.wrong.saturating_add(worker.wrong),
+            first: sums.first.max(worker.first.made),
+            second: sums.second.max(worker.second.made),
+        };
+        seats.push(worker.seat).or(Err(AllocError))?;
+    }
+    Ok((seats, sums))
+}
+
+// The greatest moment that a seat was given.
+fn latest(seats: &[CacheSeat<AnyValue, u64>]) -> Moment
+    ensures { All (λ seat. seat.greatest ≤ result) seats.now }
+{
+    let mut latest = Moment(0);
+    for seat in seats.iter() {
+        latest = latest.later(seat.greatest());
+    }
+    latest
+}
+
+// The floor by which a look at this moment misses; 0 if it does not.
+fn floor_of(cache: &SlotCache<u64>, key: &Title, now: Moment) -> u64
+    requires open { (map_of cache.now).greatest ≤ now }
+    requires small { now ≤ greatest_moment }
+{
+    let ask = Ask {
+        epoch: Moment(0),
+        version: 1,
+        need: 0,
+    };
+    match cache.look(key, now, &ask) {
+        Look::Miss(Cause::Purged { floor }) => floor.0,
+        _ => 0,
+    }
+}
+
+// Shares an empty cache, lets the workers work, and closes it: what they saw, and each key's floor.
+fn storm<R: Threads + Sync>(rt: &R, alloc: Global) -> Result<(Sums, Vec<u64>), Fail> {
+    let keys = titles(alloc)?;
+    let clock = AtomicU64::new(1);
+    let cache = SlotCache::new(alloc, SLOTS_MIN, HOLD_OFF)?;
+    let Ok((shared, seats)) = share::<AnyValue, u64>(alloc, cache, 8) else {
+        return Err(Memory)?;
+    };
+    let mut workers = workers_of(alloc, seats, &shared)?;
+    work_all(rt, alloc, &shared, &mut workers, &keys, &clock);
+    let (seats, sums) = seats_of(alloc, workers, &shared)?;
+    let now = latest(&seats);
+    let cache = shared.close(seats, now);
+    let mut floors = Vec::new(alloc);
+    for key in keys.iter() {
+        floors.push(floor_of(&cache, key, now))?;
+    }
+    Ok((sums, floors))
+}
+
+#[test]
+fn no_purge_is_lost_and_no_hit_is_too_old(rt: HostRuntime) -> Result<(), Fail> {
+    let (sums, floors) = storm(&rt, rt.alloc())?;
+    assert_eq!(rt; sums.wrong, 0);
+    // The last step of all is a purge of the second slot, or of the first one just before it.
+    let latest = [sums.first, sums.first, sums.second, sums.second];
+    assert_eq!(rt; floors.as_slice(), latest.as_slice());
+    assert!(rt; sums.hits > 0);
+    Ok(())
 }

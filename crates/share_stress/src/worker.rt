@@ -136,13 +136,7 @@ fn put(
     }
 }
 
-fn look(
-    shared: &Shared<AnyValue, u64>,
-    worker: &mut Worker,
-    key: &Title,
-    place: usize,
-    now: Moment,
-)
+fn look(shared: &Shared<AnyValue, u64>, worker: &mut Worker, key: &Title, place: usize, now: Moment)
     requires mine { worker.old.seat.table ≡ shared.now.table }
     ensures mine { worker.new.seat.table ≡ shared.now.table }
 {
@@ -196,7 +190,11 @@ impl Worker {
     fn hit(&mut self, place: usize, page: u64, set_at: Moment)
         ensures { self.new.seat ≡ self.old.seat }
     {
-        let floor = if place < 2 { self.first.floor } else { self.second.floor };
+        let floor = if place < 2 {
+            self.first.floor
+        } else {
+            self.second.floor
+        };
         self.hits = self.hits.saturating_add(1);
         if set_at.0 < floor || page != place as u64 {
             self.wrong = self.wrong.saturating_add(1);
