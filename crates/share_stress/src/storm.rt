@@ -1,7 +1,5 @@
 // Eight threads at once.
-ghost use Rattle.std.specs.Prelude.{◌≡◌, ◌≤◌, All, IfOk, length};
-ghost use Rattle.wiki_model.specs.Limits.{greatest_moment};
-ghost use Rattle.slot_cache.specs.AsModel.{map_of};
+ghost use Rattle.std.specs.Prelude.{◌≡◌, ◌≤◌, ◌+◌, All, IfOk, length};
 
 use crate::worker::{HOLD_OFF, Known, Worker, work};
 use farm_base::{Memory, Moment};
@@ -84,7 +82,7 @@ fn work_all<R: Threads + Sync>(
         8,
         &|_: usize, worker: &mut Worker|
             requires { worker.now.seat.table ≡ shared.now.table }
-            ensures { worker.exit.now.seat.table ≡ shared.now.table }
+            ensures { worker.exit.now.seat.table ≡ shared.entry.now.table }
         { work(alloc, shared, worker, keys, clock) },
     );
 }
@@ -109,15 +107,35 @@ fn seats_of(
         second: 0,
     };
     while let Some(worker) = workers.pop() {
-        sums = Sums {
-            hits: sums.hits.saturating_add(worker.hits),
-            wrong: sums.wrong.saturating_add(worker.wrong),
-            first: sums.first.max(worker.first.made),
-            second: sums.second.max(worker.second.made),
-        };
-        seats.push(worker.seat).or(Err(AllocError))?;
+        sums = sums.with(&worker);
+        push_seat(&mut seats, worker, shared)?;
     }
     Ok((seats, sums))
+}
+
+fn push_seat(
+    seats: &mut Vec<CacheSeat<AnyValue, u64>>,
+    worker: Worker,
+    shared: &Shared<AnyValue, u64>,
+) -> Result<(), AllocError>
+    requires mine { All (λ seat. seat.table ≡ shared.now.table) seats.old.items }
+    requires new { worker.seat.table ≡ shared.now.table }
+    ensures mine { IfOk result (λ _. All (λ seat. seat.table ≡ shared.now.table) seats.new.items) }
+    ensures count { IfOk result (λ _. length seats.new.items ≡ length seats.old.items + 1) }
+{
+    let _ = shared;
+    seats.push(worker.seat).or(Err(AllocError))
+}
+
+impl Sums {
+    fn with(&self, worker: &Worker) -> Sums {
+        Sums {
+            hits: self.hits.saturating_add(worker.hits),
+            wrong: self.wrong.saturating_add(worker.wrong),
+            first: self.first.max(worker.first.made),
+            second: self.second.max(worker.second.made),
+        }
+    }
 }
 
 // The greatest moment that a seat was given.
@@ -131,17 +149,37 @@ fn latest(seats: &[CacheSeat<AnyValue, u64>]) -> Moment
     latest
 }
 
+// Ends the share at the greatest moment that a seat was given.
+fn end(
+    shared: Shared<AnyValue, u64>,
+    seats: Vec<CacheSeat<AnyValue, u64>>,
+) -> (SlotCache<u64>, Moment)
+    requires count { length seats.items ≡ shared.start.seats }
+    requires mine { All (λ seat. seat.table ≡ shared.table) seats.items }
+    ensures latest { result.0.greatest ≡ result.1 }
+{
+    let now = latest(&seats);
+    (shared.close(seats, now), now)
+}
+
 // The floor by which a look at this moment misses; 0 if it does not.
 fn floor_of(cache: &SlotCache<u64>, key: &Title, now: Moment) -> u64
-    requires open { (map_of cache.now).greatest ≤ now }
-    requires small { now ≤ greatest_moment }
+    requires later { cache.now.greatest ≤ now }
 {
     let ask = Ask {
         epoch: Moment(0),
         version: 1,
         need: 0,
     };
-    match cache.look(key, now, &ask) {
+    if now.0 <= 4_000_000_000_000_000 {
+        floor_told(&cache.look(key, now, &ask))
+    } else {
+        0
+    }
+}
+
+fn floor_told(look: &Look<u64>) -> u64 {
+    match look {
         Look::Miss(Cause::Purged { floor }) => floor.0,
         _ => 0,
     }
@@ -158,8 +196,7 @@ fn storm<R: Threads + Sync>(rt: &R, alloc: Global) -> Result<(Sums, Vec<u64>), F
     let mut workers = workers_of(alloc, seats, &shared)?;
     work_all(rt, alloc, &shared, &mut workers, &keys, &clock);
     let (seats, sums) = seats_of(alloc, workers, &shared)?;
-    let now = latest(&seats);
-    let cache = shared.close(seats, now);
+    let (cache, now) = end(shared, seats);
     let mut floors = Vec::new(alloc);
     for key in keys.iter() {
         floors.push(floor_of(&cache, key, now))?;

@@ -145,15 +145,23 @@ fn look(shared: &Shared<AnyValue, u64>, worker: &mut Worker, key: &Title, place:
         version: 1,
         need: 0,
     };
-    match shared.look(&mut worker.seat, key, now, &ask) {
-        Look::Hit(value) => worker.hit(place, *value.page, value.set_at),
-        Look::Miss(Cause::Purged { floor }) => worker.is_told(place, floor.0),
-        Look::Miss(Cause::Busy { .. }) => worker.busy = worker.busy.saturating_add(1),
-        _ => {}
-    }
+    let found = shared.look(&mut worker.seat, key, now, &ask);
+    worker.sees(place, &found);
 }
 
 impl Worker {
+    // Remembers what a look told.
+    fn sees(&mut self, place: usize, found: &Look<u64>)
+        ensures { self.new.seat ≡ self.old.seat }
+    {
+        match found {
+            Look::Hit(value) => self.hit(place, *value.page, value.set_at),
+            Look::Miss(Cause::Purged { floor }) => self.is_told(place, floor.0),
+            Look::Miss(Cause::Busy { .. }) => self.busy = self.busy.saturating_add(1),
+            _ => {}
+        }
+    }
+
     fn makes(&mut self, place: usize, floor: u64)
         ensures { self.new.seat ≡ self.old.seat }
     {
