@@ -83,10 +83,17 @@ module _ {P : Type 0} where
   first_row (x ∷ xs) row = x.1
 
   -- the same, by what the steps of a put tell
-  pub owes_stored : (is_true : Truth P) (v : View P) (slot : ℕ) (row old new : Row P) (start me : Me (Row P) (View P)) → start ≡ (took v slot row, (slot, row) ∷ [])
+  pub owes_stored : (is_true : Truth P) (v : View P) (slot : ℕ) (row old new : Row P) (carried : List (ℕ × Row P)) (start me : Me (Row P) (View P)) → carried ≡ [] → start ≡ (took v slot row, (slot, row) ∷ carried)
       → start.1 ≡ (slot, old) ∷ rest start.1 → me ≡ (start.0, (slot, new) ∷ rest start.1) → Renews is_true v.handed old new → Owes is_true me slot
   unfolding first_row
-  owes_stored is_true v slot row old new start me start_is = subst (λ (s : Me (Row P) (View P)). s.1 ≡ (slot, old) ∷ rest s.1 → me ≡ (s.0, (slot, new) ∷ rest s.1) → Renews is_true v.handed old new → Owes is_true me slot) (sym start_is)
+  owes_stored is_true v slot row old new carried start me none start_taken =
+      let start_is : start ≡ (took v slot row, (slot, row) ∷ []) = start_taken ∙ ap (λ (l : List (ℕ × Row P)). (took v slot row, (slot, row) ∷ l)) none in
+      subst (λ (s : Me (Row P) (View P)). s.1 ≡ (slot, old) ∷ rest s.1 → me ≡ (s.0, (slot, new) ∷ rest s.1) → Renews is_true v.handed old new → Owes is_true me slot) (sym start_is)
       (λ same is renewed.
       let is_old : row ≡ old = ap (λ (l : List (ℕ × Row P)). first_row l row) same in
       owes_put is_true v slot old new me (is ∙ ap (λ (r : Row P). (took v slot r, (slot, new) ∷ [])) is_old) renewed)
+
+  -- the same, by what the steps of a look tell
+  pub owes_looked : (is_true : Truth P) (v : View P) (slot : ℕ) (row : Row P) (carried : List (ℕ × Row P)) (start me : Me (Row P) (View P)) → carried ≡ [] → start ≡ (took v slot row, (slot, row) ∷ carried) → me ≡ start → Owes is_true me slot
+  owes_looked is_true v slot row carried start me none start_is same =
+      owes_same is_true v slot row me (same ∙ (start_is ∙ ap (λ (l : List (ℕ × Row P)). (took v slot row, (slot, row) ∷ l)) none))
