@@ -102,15 +102,29 @@ fn look_at(
     requires seats { AreAllSeats shared.now seats.old.items now }
     ensures seats { AreAllSeats shared.now seats.new.items now }
 {
+    match seats.get_mut(seat) {
+        Some(seat) => look_with(shared, seat, title, now),
+        None => Seen::Memory,
+    }
+}
+
+fn look_with(
+    shared: &Shared<AnyValue, u64>,
+    seat: &mut CacheSeat<AnyValue, u64>,
+    title: &Title,
+    now: Moment,
+) -> Seen
+    requires mine { seat.old.table ≡ shared.now.table }
+    requires later { seat.old.greatest ≤ now }
+    ensures mine { seat.new.table ≡ shared.now.table }
+    ensures later { seat.new.greatest ≤ now }
+{
     let ask = Ask {
         epoch: Moment(0),
         version: 1,
         need: 0,
     };
-    match seats.get_mut(seat) {
-        Some(seat) => shown(&shared.look(seat, title, now, &ask)),
-        None => Seen::Memory,
-    }
+    shown(&shared.look(seat, title, now, &ask))
 }
 
 // A put with the seat of this place; `Put::Memory` if there is none.
@@ -127,9 +141,26 @@ fn put_at(
     ensures seats { AreAllSeats shared.now seats.new.items now }
 {
     match seats.get_mut(seat) {
-        Some(seat) => shared.put(seat, title, value),
+        Some(seat) => put_with(shared, seat, title, value, now),
         None => Put::Memory,
     }
+}
+
+fn put_with(
+    shared: &Shared<AnyValue, u64>,
+    seat: &mut CacheSeat<AnyValue, u64>,
+    title: &Title,
+    value: Value<u64>,
+    now: Moment,
+) -> Put
+    requires mine { seat.old.table ≡ shared.now.table }
+    requires later { seat.old.greatest ≤ now }
+    requires set { value.set_at ≡ now }
+    ensures mine { seat.new.table ≡ shared.now.table }
+    ensures later { seat.new.greatest ≤ now }
+{
+    let _ = now;
+    shared.put(seat, title, value)
 }
 
 fn purge_at(

@@ -10,7 +10,9 @@ const FLOOR: Moment = Moment(13_000);
 
 // They have the slot 168 of 256, and the slot 202.
 const FIRST: &str = "A";
+
 const NEIGHBOR: &str = "Page 972";
+
 const STRANGER: &str = "B";
 
 #[test]
@@ -23,7 +25,10 @@ fn a_purge_of_a_seat_is_there_when_the_share_is_closed(rt: HostRuntime) -> Resul
     crew.purge(0, &first);
     let mut cache = crew.close();
     cache.pass(10_999);
-    assert_eq!(rt; cache.look(&first, 0), Seen::Miss(Cause::Purged { floor: FLOOR }));
+    assert_eq!(rt;
+        cache.look(&first, 0),
+        Seen::Miss(Cause::Purged { floor: FLOOR })
+    );
     assert_eq!(rt; cache.look(&stranger, 0), Seen::Miss(Cause::Absent));
     Ok(())
 }
@@ -68,9 +73,15 @@ fn a_purge_ends_the_value_that_another_seat_put(rt: HostRuntime) -> Result<(), F
     assert_eq!(rt; crew.put(alloc, 0, &first, 7, false)?, Put::Main);
     crew.pass(2_000);
     crew.purge(1, &first);
-    assert_eq!(rt; crew.look(0, &first), Seen::Miss(Cause::Purged { floor: FLOOR }));
+    assert_eq!(rt;
+        crew.look(0, &first),
+        Seen::Miss(Cause::Purged { floor: FLOOR })
+    );
     assert_eq!(rt; crew.put(alloc, 0, &first, 8, false)?, Put::Interim);
-    assert_eq!(rt; crew.put(alloc, 1, &first, 9, true)?, Put::Held { until: FLOOR });
+    assert_eq!(rt;
+        crew.put(alloc, 1, &first, 9, true)?,
+        Put::Held { until: FLOOR }
+    );
     assert_eq!(rt; crew.look(1, &first), Seen::Interim(8));
     let mut cache = crew.close();
     assert_eq!(rt; cache.look(&first, 0), Seen::Interim(8));
@@ -92,6 +103,9 @@ fn a_cache_that_was_shared_is_shared_again(rt: HostRuntime) -> Result<(), Fail> 
     crew.pass(2_000);
     crew.purge(3, &first);
     let cache = crew.close();
-    assert_eq!(rt; cache.look(&first, 0), Seen::Miss(Cause::Purged { floor: FLOOR }));
+    assert_eq!(rt;
+        cache.look(&first, 0),
+        Seen::Miss(Cause::Purged { floor: FLOOR })
+    );
     Ok(())
 }
