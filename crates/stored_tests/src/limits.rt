@@ -1,14 +1,14 @@
 // Rows that no history has, and entries that no row takes: each is a fault of the call that meets it.
-use crate::setting::{Questions, answers, edit_of, new_keeper};
+use crate::setting::{Questions, answers, edit_of, new_keeper, started};
 use crate::twins::Twins;
 use commit_feed::Entry;
 use farm_base::{MOMENT_MAX, Moment};
 use revision_keeper::{KeepFault, Keeper};
-use sqlite::MemStore;
+use sqlite::{MemStore, params};
 use sqlite_keeper::SqliteKeeper;
 use std::alloc::Global;
 use std::test::Fail;
-use wiki_titles::{ClientId, Text, Title, Token};
+use wiki_titles::{ClientId, TEXT_MAX, Text, Title, Token};
 
 // Which call meets the changed row. Titles and clients are those of the only page.
 #[derive(Clone, Copy)]
@@ -21,7 +21,7 @@ enum Call {
 }
 
 // What is done to a beat and two commits of client 1 on `A`, and the call that then is a fault.
-const CHANGES: [(&str, Call); 28] = [
+const CHANGES: [(&str, Call); 27] = [
     (
         "UPDATE entry SET stamp = 4000000000000001 WHERE n = 1",
         Call::Entry(1),
@@ -61,10 +61,6 @@ const CHANGES: [(&str, Call); 28] = [
     ("UPDATE change SET base = -1 WHERE n = 2", Call::Entry(2)),
     (
         "UPDATE change SET body = 'a\rb' WHERE n = 2",
-        Call::Entry(2),
-    ),
-    (
-        "UPDATE change SET body = hex(zeroblob(32769)) WHERE n = 2",
         Call::Entry(2),
     ),
     ("UPDATE title SET body = '' WHERE id = 2", Call::Entry(2)),
@@ -129,6 +125,22 @@ fn a_row_that_no_history_has_is_a_fault(rt: HostRuntime) -> Result<(), Fail> {
     for (sql, call) in CHANGES {
         let mut keeper = changed(rt.alloc(), sql)?;
         assert!(rt; is_only_fault(rt.alloc(), &mut keeper, call)?, "{sql}");
+    }
+    Ok(())
+}
+
+#[test]
+fn a_stored_text_past_its_limit_is_a_fault(rt: HostRuntime) -> Result<(), Fail> {
+    let alloc = rt.alloc();
+    for (bytes, fails) in [(TEXT_MAX, false), (TEXT_MAX + 1, true)] {
+        let mut conn = two_commits(alloc)?.into_opened()?;
+        let body = "x".repeat(alloc, bytes)?;
+        conn.execute(
+            "UPDATE change SET body = ?1 WHERE n = 2",
+            params![body.as_str()],
+        )?;
+        let mut keeper = started(alloc, conn)?;
+        assert_eq!(rt; is_fault(keeper.entry(2)), fails);
     }
     Ok(())
 }

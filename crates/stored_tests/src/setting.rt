@@ -121,6 +121,7 @@ fn revision_at(feed: &Feed, n: u64) -> u64
 
 /// What is asked of a keeper: each entry up to one past `upto`, each title in each of these prefixes, each client with
 /// each token, and what each client has written.
+#[derive(Clone, Copy, Drop)]
 pub struct Questions<'a> {
     pub upto: u64,
     pub titles: &'a [&'a str],
