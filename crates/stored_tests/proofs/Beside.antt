@@ -1,6 +1,6 @@
 -- A keeper beside a list: if the keeper exposes its history, that is the list, and so what may follow the list may
 -- follow the history, and after it both are the same again. A keeper that exposes nothing owes nothing.
-use Rattle.std.proofs.Common.{◌≡◌, List, [], ◌∷◌, ◌++◌, Some, None, Option, option_map, IfSome, refl, sym, ap, ◌∙◌, subst, ⊤}
+use Rattle.std.proofs.Common.{◌≡◌, List, [], ◌∷◌, ◌++◌, Some, None, Option, option_map, IfSome, refl, sym, ap, ◌∙◌, subst}
 use Rattle.wiki_model.specs.History.{Entry, IsHistory}
 
 pub may_follow : (o : Option (List Entry)) (list : List Entry) (e : Entry)
