@@ -26,7 +26,7 @@ finds_in positions client now = by (row_of positions client).held
     by (Some held) = by_test held (nat_lt now held.expires)
 
 -- the later of two is the later of their rows
-later_is : (o : Option HeldPosition) (told : HeldPosition) → held_of (later o told) ≡ later_row (option_map held_of o) (held_of told)
+pub later_is : (o : Option HeldPosition) (told : HeldPosition) → held_of (later o told) ≡ later_row (option_map held_of o) (held_of told)
 later_is None told = refl
 later_is (Some held) told = by (nat_lt held.index told.index)
   where

@@ -1,7 +1,8 @@
 // A browser saves a page and reads it: what it sends, and what it gets.
 use crate::setting::word_of;
 use farm_base::SureSource;
-use http_desk::{Call, Incoming, Reply, Request, Status, answer_bytes, read_request};
+use http_desk::{Call, Incoming, Request, read_request};
+use http_reply::{Reply, Status, answer_bytes};
 use std::alloc::Global;
 use std::test::Fail;
 use sticky_routes::{Cookies, PosCookie, no_edge_value, position_value, use_master_value};

@@ -1,6 +1,7 @@
 // Requests that are refused, each for its own fault, and the responses to them.
 use crate::setting::{incoming, word};
-use http_desk::{Incoming, answer_bytes, refusal_reply};
+use http_desk::Incoming;
+use http_reply::{answer_bytes, refusal_reply};
 use std::alloc::Global;
 use std::test::Fail;
 

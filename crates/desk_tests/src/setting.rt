@@ -1,6 +1,7 @@
 // Reading a request from bytes, and a word for what was read.
 use farm_base::{MemConn, SureSource};
-use http_desk::{Call, Fault, Incoming, Request, read_request};
+use http_desk::{Call, Incoming, Request, read_request};
+use http_reply::Fault;
 use std::alloc::Global;
 use std::test::Fail;
 

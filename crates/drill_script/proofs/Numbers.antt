@@ -1,8 +1,6 @@
 -- What `parse` says of a number as the script writes it.
 use Rattle.std.proofs.Common.{◌≡◌, ℕ, ◌<◌, ◌^◌, Bool, true, false, nat_le, List, length, None, Err, refl, arith, rules}
 use Rattle.std.specs.List.{list_all}
-use Rattle.std.specs.Str.{IsUtf8, is_utf8}
-use Rattle.std.proofs.lemmas.Str.{IsUtf8-from_is_utf8}
 use Rattle.std.specs.Str.Parse.{ParsesUnsigned, digits_value}
 use Rattle.std.proofs.lemmas.Bool.Decides.{nat_tests}
 use Rattle.std.proofs.lemmas.Str.Parse.{IsNumeralModel, numerals_by_value, parse_digits}
@@ -27,11 +25,3 @@ number_refused most bs e fits h t =
     below_limit : ¬ ((0 < length bs) × (digits_value 10 bs < 2 ^ 64)) → 0 < length bs → (b : Bool) → nat_le (digits_value 10 bs) most ≡ b → b ≡ false
     below_limit refuses filled false q = refl
     below_limit refuses filled true q = absurd (refuses (filled, grind (arith, nat_tests)))
-
--- a line that is not UTF-8
-pub not_utf8 : (bs : List ℕ) → (IsUtf8 bs → ⊥) → is_utf8 bs ≡ false
-not_utf8 bs refused = by_test (is_utf8 bs) refl
-  where
-    by_test : (b : Bool) → is_utf8 bs ≡ b → b ≡ false
-    by_test false q = refl
-    by_test true q = absurd (refused (IsUtf8-from_is_utf8 bs q))

@@ -4,25 +4,11 @@ use Rattle.std.specs.Prelude.{codes, decimal}
 use Rattle.std.specs.Arc.{arc_value}
 use Rattle.wiki_model.specs.Bytes.{Bytes}
 use Rattle.wiki_model.specs.Report.{origin_text, by_text, answer_text, page_of, report_line, end_line}
+use Rattle.farm_base.proofs.Pieces.{right_left}
 use Rattle.region_state.specs.AsModel.{answer_of}
 use Rattle.region_state.specs.declared.answer.Answer.{Answer}
 use Rattle.region_state.specs.declared.answer.Answer.TheVariants as answers
 use Rattle.drill_script.specs.Texts.{text_of, numbered_text, end_text, shown_note, lagged_text}
-
--- pieces put together from the left, and from the right
-
-abbrev pub left : Bytes → List Bytes → Bytes
-left p [] = p
-left p (q ∷ pieces) = left (p ++ q) pieces
-
-abbrev pub right : Bytes → List Bytes → Bytes
-right p [] = p
-right p (q ∷ pieces) = p ++ right q pieces
-
-pub right_left : (p : Bytes) (pieces : List Bytes) → right p pieces ≡ left p pieces
-right_left p [] = refl
-right_left p (q ∷ []) = refl
-right_left p (q ∷ r ∷ pieces) = sym (append_assoc p q (right r pieces)) ∙ right_left (p ++ q) (r ∷ pieces)
 
 pub text_is : (with_note : Bool) (answer : Answer) → text_of with_note answer ≡ answer_text with_note (answer_of answer)
 text_is with_note (answers.Ok p) =

@@ -7,7 +7,7 @@ use Rattle.wiki_model.specs.Answers.{Answer}
 use Rattle.wiki_model.specs.Generator.{count_of, is_page, is_hit, is_interim, is_saved, is_no_page, is_lag, summary_of}
 use Rattle.drill_script.specs.Summary.{IsSummaryOf, one_if, counted, first_text, second_text}
 use Rattle.drill_script.specs.declared.count_answers.Summary.{Summary}
-use Rattle.drill_script.proofs.Reports.{right_left, right, left}
+use Rattle.farm_base.proofs.Pieces.{right_left, right, left}
 
 one_count : (test : Answer → Bool) (answers : List Answer) (answer : Answer) → count_of test (answers ++ answer ∷ []) ≡ count_of test answers + one_if (test answer)
 one_count test [] answer = by_test (test answer)

@@ -5,7 +5,8 @@ use Rattle.wiki_model.specs.Script.{Line, IsScript, IsFirstFault}
 
 -- the same bytes are never two scripts
 abbrev pub ScriptsAreOne : Type 0
-ScriptsAreOne = (lines others : List Line) (bytes : Bytes) → IsScript lines bytes → IsScript others bytes → lines ≡ others
+ScriptsAreOne =
+    (lines others : List Line) (bytes : Bytes) → IsScript lines bytes → IsScript others bytes → lines ≡ others
 
 -- a script is never refused by one of its lines
 abbrev pub ScriptsHaveNoFault : Type 0

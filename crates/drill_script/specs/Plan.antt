@@ -1,4 +1,5 @@
--- What the first two lines of a script say of the farm's layout: the line `farm`, and the line `bounds` first or after it.
+-- What the first two lines of a script say of the farm's layout: the line `farm`, and the line `bounds` first or after
+-- it.
 use Rattle.std.specs.Prelude.{ℕ, if◌then◌else◌, List, [], ◌∷◌, Option, None, Some}
 use Rattle.wiki_model.specs.declared.Region.{Region}
 use Rattle.wiki_model.specs.declared.Region.TheVariants.{Home, West}

@@ -2,6 +2,7 @@
 use Rattle.std.specs.Prelude.{◌≡◌, Bool, List, map, Result, Ok, Err}
 use Rattle.wiki_model.specs.declared.Region.{Region}
 use Rattle.wiki_model.specs.Bytes.{Bytes}
+use Rattle.wiki_model.specs.Limits.{script_slots}
 use Rattle.wiki_model.specs.Report.{script_setting}
 use Rattle.wiki_model.specs.Script.{Line, IsScript, IsFirstFault}
 use Rattle.wiki_model.specs.Titles.{Title}
@@ -18,11 +19,12 @@ lines_of lines = map line_of lines
 
 -- the plan is the setting that the first lines give, in whatever way titles go together
 abbrev pub IsPlan : List ScriptLine → FarmPlan → Type 0
-IsPlan lines plan = (together : Region → Title → Title → Bool) → IsPlanOf (script_setting together (lines_of lines)) plan
+IsPlan lines plan =
+    (together : Region → Title → Title → Bool) → IsPlanOf (script_setting together (lines_of lines)) plan
 
 -- each cache has room for 65,536 pages, and replicas apply nothing of themselves
 abbrev pub HasRoom : FarmPlan → Type 0
-HasRoom plan = (plan.home.slots ≡ 65_536) × (plan.west.slots ≡ 65_536) × (plan.pace ≡ 0)
+HasRoom plan = (plan.home.slots ≡ script_slots) × (plan.west.slots ≡ script_slots) × (plan.pace ≡ 0)
 
 -- The script is that of the bytes: item n of its lines is line n, and its plan is theirs.
 pub record IsScriptOf (script : Script) (bytes : Bytes) : Type 0 where

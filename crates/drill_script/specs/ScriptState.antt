@@ -113,7 +113,8 @@ pub record IsNextLine (earlier : List Line) (line : Line) (bytes : Bytes) : Type
 -- the state as before.
 abbrev pub ReadsLine : ScriptState → Bytes → Result ScriptLine LineFault → ScriptState → Type 0
 ReadsLine old bytes (Ok line) new =
-    (earlier : List Line) → IsStateOf old earlier → IsNextLine earlier (line_of line) bytes × IsStateOf new (earlier ++ line_of line ∷ [])
+    (earlier : List Line) → IsStateOf old earlier → IsNextLine earlier (line_of line) bytes
+    × IsStateOf new (earlier ++ line_of line ∷ [])
 ReadsLine old bytes (Err faults.Form) new =
     (new ≡ old) × ((earlier : List Line) (line : Line) → IsStateOf old earlier → IsNextLine earlier line bytes → ⊥)
 ReadsLine old bytes (Err faults.Memory) new = new ≡ old

@@ -41,8 +41,15 @@ pub record IsOrdered (s : Summary) : Type 0 where
 -- the line in two parts, each put together from the right as it is printed
 abbrev pub first_text : (steps entries : ℕ) → Summary → Bytes
 first_text steps entries s =
-    codes "stir steps=" ++ (decimal steps ++ (codes " entries=" ++ (decimal entries ++ (codes " saved=" ++ (decimal s.saved ++ (codes " ok=" ++ decimal s.pages))))))
+    codes "stir steps="
+    ++ (decimal steps
+    ++ (codes " entries="
+    ++ (decimal entries ++ (codes " saved=" ++ (decimal s.saved ++ (codes " ok=" ++ decimal s.pages))))))
 
 abbrev pub second_text : Summary → Bytes
 second_text s =
-    codes " hit=" ++ (decimal s.hits ++ (codes " interim=" ++ (decimal s.interim ++ (codes " no-page=" ++ (decimal s.no_pages ++ (codes " lag=" ++ (decimal s.lags ++ codes "\n")))))))
+    codes " hit="
+    ++ (decimal s.hits
+    ++ (codes " interim="
+    ++ (decimal s.interim
+    ++ (codes " no-page=" ++ (decimal s.no_pages ++ (codes " lag=" ++ (decimal s.lags ++ codes "\n")))))))

@@ -29,7 +29,8 @@ Gives view (Err faults.Memory) read = Unit {0}
 -- what stands before the first of a byte, and what after it
 unfoldable pub cut_first : ℕ → Bytes → Option (Bytes × Bytes)
 cut_first sign bytes =
-    if nat_lt (position_or_len (λ b. b == sign) bytes) (length bytes) then Some (before_first (λ b. b == sign) bytes, after_first (λ b. b == sign) bytes)
+    if nat_lt (position_or_len (λ b. b == sign) bytes) (length bytes) then
+    Some (before_first (λ b. b == sign) bytes, after_first (λ b. b == sign) bytes)
     else None
 
 -- a word, and what stands after the one space behind it
@@ -38,11 +39,13 @@ word_at text = cut_first 32 text
 
 -- decimal digits, with no 0 first but for 0 itself
 abbrev pub is_number : Bytes → Bool
-is_number bytes = nat_lt 0 (length bytes) && list_all is_digit bytes && (nat_lt (length bytes) 2 || nat_lt 48 (slice_index bytes 0))
+is_number bytes =
+    nat_lt 0 (length bytes) && list_all is_digit bytes && (nat_lt (length bytes) 2 || nat_lt 48 (slice_index bytes 0))
 
 -- the number of a word, at most `most`
 unfoldable pub number_of : ℕ → Bytes → Option ℕ
-number_of most word = if is_number word then (if nat_le (digits_value 10 word) most then Some (digits_value 10 word) else None) else None
+number_of most word =
+    if is_number word then (if nat_le (digits_value 10 word) most then Some (digits_value 10 word) else None) else None
 
 -- the number of a word, from 1 to `most`
 unfoldable pub positive_of : ℕ → Bytes → Option ℕ
@@ -59,7 +62,8 @@ client_in word = do
   Some (client_number n)
 
 abbrev pub region_in : Bytes → Option Region
-region_in word = if bytes_eq word (codes "home") then Some Home else (if bytes_eq word (codes "west") then Some West else None)
+region_in word =
+    if bytes_eq word (codes "home") then Some Home else (if bytes_eq word (codes "west") then Some West else None)
 
 abbrev pub token_in : Bytes → Option Token
 token_in word = if is_token word then Some word else None

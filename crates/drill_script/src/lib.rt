@@ -34,7 +34,7 @@ mod words;
 pub use count_answers::{Summary, count_answer, summary_line};
 pub use laws::{scripts_are_one, scripts_have_no_fault};
 pub use plan::SLOTS;
-pub use report_text::{end_line, page_bytes, report_head, report_line};
+pub use report_text::{answer_text, end_line, origin_text, page_bytes, report_head, report_line};
 pub use script_line::ScriptLine;
 pub use script_state::{ScriptState, has_ended, read_line};
 pub use whole_script::{SCRIPT_MAX, Script, ScriptFault, read_script};

@@ -1,5 +1,6 @@
 // The layout of the farm that a script's first lines give.
 ghost use Rattle.std.specs.Prelude.{◌≡◌, [], ◌∷◌, IfOk, option_map, slice_get};
+ghost use Rattle.wiki_model.specs.Limits.{script_slots};
 ghost use Rattle.farm_base.specs.AsModel.{bounds_of};
 ghost use Rattle.drill_script.specs.AsModel.{line_of};
 ghost use Rattle.drill_script.specs.Plan.{weights_by, epoch_by, bounds_by, weights_told, epoch_told, bounds_at, bounds_told};
@@ -11,7 +12,7 @@ use farm_base::{Bounds, Listed, Memory, Moment, Region};
 use region_state::{FarmPlan, RegionPlan};
 use std::alloc::Global;
 
-/// How many pages each cache of a script's farm has room for.
+/// How many slots each cache of a script's farm has.
 pub const SLOTS: u32 = 65_536; // pages
 
 /// The layout that the first lines give: the weights and the epoch of the line `farm`, if it is the first, and the
@@ -37,7 +38,7 @@ pub fn plan_of(alloc: Global, lines: &[ScriptLine]) -> Result<FarmPlan, Memory>
 
 fn region_plan(weights: Listed<u16>) -> RegionPlan
     ensures weights { result.weights ≡ weights }
-    ensures slots { result.slots ≡ 65_536 }
+    ensures slots { result.slots ≡ script_slots }
 {
     RegionPlan {
         weights,

@@ -77,8 +77,10 @@ fn numbered_text(alloc: Global, line: u64, text: &str) -> Result<String, Memory>
     Ok(format!(in alloc; "{line} {text}\n")?)
 }
 
+/// What an answer says in words, without its line's number and without the line feed; `with_note` shows how a value was
+/// put.
 #[tactic(auto, using(crate::proofs::Reports::text_is))]
-fn answer_text(alloc: Global, with_note: bool, answer: &Answer) -> Result<String, Memory>
+pub fn answer_text(alloc: Global, with_note: bool, answer: &Answer) -> Result<String, Memory>
     ensures { IfOk result (λ s. string_bytes s ≡ answer_text with_note (answer_of answer.now)) }
 {
     let text = text_of(alloc, with_note, answer)?;
@@ -138,7 +140,8 @@ fn page_text(
     Ok(format!(in alloc; "ok source={source} from={origin}{note} lagged={lagged} bytes={bytes}")?)
 }
 
-fn origin_text(alloc: Global, origin: Origin) -> Result<String, Memory>
+/// Where a page came from, in words.
+pub fn origin_text(alloc: Global, origin: Origin) -> Result<String, Memory>
     ensures { IfOk result (λ s. string_bytes s ≡ origin_text origin) }
 {
     match origin {

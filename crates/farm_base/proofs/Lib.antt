@@ -1,3 +1,4 @@
+pub mod Pieces
 pub mod Chains
 pub mod Places
 pub mod Digits

@@ -12,7 +12,7 @@ use crate::lend_cache::{lend_cache, take_cache};
 use crate::open_farm::start;
 use commit_feed::Entry;
 use farm_base::{Moment, Readings, Region};
-use farm_steps::{Requests, is_open, moment_of, moments_at};
+use farm_steps::{EditTerm, Requests, is_open, moment_of, moments_at};
 use page_render::Page;
 use purge_relay::{Body, Ledger, Message, Receipt};
 use region_state::{Answer, Asked, FarmPlan, RegionState};
@@ -229,8 +229,10 @@ impl<K: Keeper, S: RegionStore<Page>> Farm<K, S> {
             &mut self.ledger,
             &mut self.home,
             &mut self.requests,
-            self.moments.home,
-            commit_delay(&self.plan),
+            EditTerm {
+                now: self.moments.home,
+                delay: commit_delay(&self.plan),
+            },
             id,
         )
     }
@@ -498,7 +500,8 @@ impl<K: Keeper, S: RegionStore<Page>> Farm<K, S> {
 
     /// The message of this number.
     pub fn message(&self, number: u64) -> Option<&Message>
-        ensures { option_copied result ≡ option_map (λ row. row.message) (row_at self.now.ledger.rows number) }
+        ensures value { option_copied result ≡ option_map (λ row. row.message) (row_at self.now.ledger.rows number) }
+        ensures number { IfSome result (λ message. message.now.number ≡ number) }
     {
         self.ledger.message(number)
     }
@@ -574,6 +577,7 @@ impl<K: Keeper, S: RegionStore<Page>> Farm<K, S> {
         self.last_beat
     }
 
+    /// The plan by which the farm was opened.
     pub fn plan(&self) -> &FarmPlan
         ensures { result.now ≡ self.now.plan }
     {

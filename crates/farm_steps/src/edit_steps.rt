@@ -148,27 +148,34 @@ fn end_begin<S: RegionStore<Page>>(
     }
 }
 
+/// When an edit begins, and how long after it its commit still counts as early.
+#[derive(Clone, Copy, Debug, PartialEq, Eq)]
+pub struct EditTerm {
+    pub now: Moment,
+    /// In milliseconds, at most the greatest that a bound may be. A commit after it purges its title once more.
+    pub delay: u64,
+}
+
 /// The step `begin`: an edit that the history does not decide has its purge issued, and received at home.
 pub fn begin<K: Keeper, S: RegionStore<Page>>(
     keeper: &mut K,
     ledger: &mut Ledger,
     home: &mut RegionState<S>,
     requests: &mut Requests,
-    now: Moment,
-    delay: u64,
+    term: EditTerm,
     id: u64,
 ) -> Option<Answer>
     requires there { IsSome home.old.cache }
-    requires before { IsBefore S.cache home.old now }
-    requires small { now ≤ greatest_moment }
-    requires delay { delay ≤ bound_max }
+    requires before { IsBefore S.cache home.old term.now }
+    requires small { term.now ≤ greatest_moment }
+    requires delay { term.delay ≤ bound_max }
     ensures { BeginsTo S.cache (K.content keeper.old) (K.content keeper.new) (K.faults keeper.old) (K.faults keeper.new)
-        home.old home.new ledger.old ledger.new now delay id requests.old.entries requests.new.entries
+        home.old home.new ledger.old ledger.new term.now term.delay id requests.old.entries requests.new.entries
         (option_map answer_of result) (arrived_edit (open_at requests.old.entries id)) }
 {
     let Some(ask) = take_arrived_edit(requests, id) else {
         return Some(Answer::NotOpen { id });
     };
-    let begun = home.begin(keeper, ledger, ask, now, delay);
-    end_begin(ledger, home, requests, begun, now, id)
+    let begun = home.begin(keeper, ledger, ask, term.now, term.delay);
+    end_begin(ledger, home, requests, begun, term.now, id)
 }

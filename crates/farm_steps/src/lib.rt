@@ -28,7 +28,7 @@ mod relay_steps;
 mod request_map;
 mod view_steps;
 
-pub use edit_steps::{begin, commit};
+pub use edit_steps::{EditTerm, begin, commit};
 pub use moments::{first_moments, moment_of, moments_at};
 pub use open_request::OpenRequest;
 pub use relay_steps::{Carriage, carry, drop_message, find_carriage, receive_all};

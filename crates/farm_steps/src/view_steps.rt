@@ -29,7 +29,7 @@ use crate::request_map::{
 use farm_base::{Memory, Moment, Readings, Region};
 use page_render::Page;
 use region_state::{
-    Answer, Asked, OpenView, Origin, PageAnswer, RegionState, Snapped, ViewAsk, Wait,
+    Answer, Asked, OpenView, Origin, PageAnswer, RegionState, SnapTerms, Snapped, ViewAsk, Wait,
 };
 use revision_keeper::{KeepFault, Keeper};
 use std::alloc::Global;
@@ -257,29 +257,14 @@ fn snap_in<S: RegionStore<Page>>(
     west: &RegionState<S>,
     at: Readings,
     view: &OpenView,
-    need: u64,
-    pending: bool,
+    terms: SnapTerms,
 ) -> Result<Snapped, Memory>
-    ensures { IfOk result (λ s. SnapsIn (region_at view.now.region home.now west.now) view.now.ask.title need
-        view.now.ask.word pending (moment_of view.now.region at) s) }
+    ensures { IfOk result (λ s. SnapsIn (region_at view.now.region home.now west.now) view.now.ask.title terms.need
+        terms.word terms.pending (moment_of view.now.region at) s) }
 {
     match view.region {
-        Region::Home => home.snap(
-            alloc,
-            &view.ask.title,
-            need,
-            view.ask.word,
-            pending,
-            at.home,
-        ),
-        Region::West => west.snap(
-            alloc,
-            &view.ask.title,
-            need,
-            view.ask.word,
-            pending,
-            at.west,
-        ),
+        Region::Home => home.snap(alloc, &view.ask.title, terms, at.home),
+        Region::West => west.snap(alloc, &view.ask.title, terms, at.west),
     }
 }
 
@@ -321,7 +306,12 @@ pub fn snap<S: RegionStore<Page>>(
         return Some(Answer::NotOpen { id });
     };
     let pending = is_pending(requests, view.region, &view.ask.title);
-    let made = snap_in(alloc, home, west, at, &view, need, pending);
+    let terms = SnapTerms {
+        need,
+        word: view.ask.word,
+        pending,
+    };
+    let made = snap_in(alloc, home, west, at, &view, terms);
     snapped(requests, id, view, made)
 }
 

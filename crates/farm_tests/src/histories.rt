@@ -6,7 +6,7 @@ use edit_core::{Begun, CommitOutcome, EditAsk, EditRefusal};
 use farm_base::{Bounds, Moment, Region};
 use page_render::Page;
 use purge_relay::{Issued, Ledger};
-use region_state::{RegionState, ViewAsk, Wait, young_commits};
+use region_state::{RegionState, SnapTerms, ViewAsk, Wait, young_commits};
 use revision_keeper::{Keeper, MemKeeper};
 use std::alloc::Global;
 use std::test::Fail;
@@ -85,7 +85,12 @@ fn applies_what_there_is<K: Keeper + Drop, S: RegionStore<Page>>(
 // How many entries the replica has that is drawn by the word 0.
 fn upto<S: RegionStore<Page>>(alloc: Global, region: &RegionState<S>) -> Result<u64, Fail> {
     let title = title_of(alloc, "A")?;
-    let snapped = region.snap(alloc, &title, 0, 0, false, Moment(90_000))?;
+    let terms = SnapTerms {
+        need: 0,
+        word: 0,
+        pending: false,
+    };
+    let snapped = region.snap(alloc, &title, terms, Moment(90_000))?;
     Ok(snapped.snapshot.upto)
 }
 

@@ -7,7 +7,9 @@ use chronology_store::RelayAnswer;
 use commit_feed::Entry;
 use farm_base::{Bounds, MOMENT_MAX, Memory, Moment};
 use page_render::Page;
-use region_state::{Answer, Origin, PutNote, RegionPlan, RegionState, Snapped, ViewAsk, Wait};
+use region_state::{
+    Answer, Origin, PutNote, RegionPlan, RegionState, SnapTerms, Snapped, ViewAsk, Wait,
+};
 use replica_apply::Applied;
 use std::alloc::Global;
 use std::marker::Model;
@@ -93,10 +95,12 @@ impl<S: RegionStore<Page> + Drop> TimedRegion<S> {
 
     pub fn snap(&self, alloc: Global, title: &str, need: u64, word: u64) -> Result<Snapped, Fail> {
         let title = title_of(alloc, title)?;
-        Ok(
-            self.region
-                .snap(alloc, &title, need, word, false, self.now)?,
-        )
+        let terms = SnapTerms {
+            need,
+            word,
+            pending: false,
+        };
+        Ok(self.region.snap(alloc, &title, terms, self.now)?)
     }
 
     pub fn store(&mut self, alloc: Global, title: &str, snapped: &Snapped) -> Result<Stored, Fail> {

@@ -10,10 +10,11 @@ use Rattle.wiki_model.specs.Bytes.{Bytes}
 use Rattle.wiki_model.specs.Asking.{HeadTooLarge, NoHead, Fault, Call}
 use Rattle.http_desk.specs.Heads.{Head, said_at, said_by, head_fault, body_length, is_head_method}
 use Rattle.http_desk.specs.Calls.{call_of}
-use Rattle.http_desk.specs.Incoming.{window, is_full, HasHead, IsOpen, IsHeadIn, Grows, Incoming, Refused, Closed, Cut, closing, incoming, ReadsBody, ReadsAfter, Reads, IsRead}
+use Rattle.http_head.specs.Input.{window, is_full, HasHead, IsOpen, IsHeadIn}
+use Rattle.http_desk.specs.Incoming.{Grows, Incoming, Refused, Closed, Cut, closing, incoming, ReadsBody, ReadsAfter, Reads, IsRead}
 use Rattle.std.specs.Prelude.{IfSome}
 use Rattle.http_desk.specs.AsModel.{IsShown}
-use Rattle.http_desk.proofs.Heads.{looks_at}
+use Rattle.http_head.proofs.Heads.{looks_at, never_more}
 
 consumes_then : (a b c : Option Bytes) (xs ys : Bytes) → Consumes a b xs → Consumes b c ys → Consumes a c (xs ++ ys)
 consumes_then None b c xs ys p q = tt
@@ -42,7 +43,7 @@ input_is k s k1 s1 p = ap (λ z. k ++ z) p.taken ∙ (sym (append_assoc k p.more
 reads_at : (linked : Bool) (k : Bytes) (l : Option Bytes) (k1 : Bytes) (l1 : Option Bytes) (k2 : Bytes) (got : Incoming)
     → Grows k l k1 l1 → ((s : Bytes) → l1 ≡ Some s → Reads linked (k1 ++ s) got (k2 ++ s)) → IsRead linked k l k2 l1 got
 reads_at linked k None k1 l1 k2 got p f = tt
-reads_at linked k (Some s) k1 None k2 got p f = tt
+reads_at linked k (Some s) k1 None k2 got p f = absurd p.taken
 reads_at linked k (Some s) k1 (Some s1) k2 got p f = subst (λ z. Reads linked z got (k2 ++ s1)) (sym (input_is k s k1 s1 p)) (f s1 refl)
 
 end_is : (l : Option Bytes) (s : Bytes) → IsAtEnd l → l ≡ Some s → s ≡ []
@@ -67,9 +68,6 @@ unfolding window is_full
 reads_large linked k l k1 l1 p full opens = reads_at linked k l k1 l1 k1 (Refused (closing HeadTooLarge false)) p
     (λ s is. inr (inr (inl (refl, ((looks_at k1 s).stays full, subst IsOpen (sym ((looks_at k1 s).same full)) opens)))))
 
-pub never_more : (a b : Bytes) → NeverHasRequest a → NeverHasRequest (a ++ b)
-never_more a b never = λ more h rest reads. never (b ++ more) h rest (reads.0, sym (append_assoc a b more) ∙ reads.1)
-
 pub reads_never : (linked : Bool) (k : Bytes) (l : Option Bytes) (k1 : Bytes) (l1 : Option Bytes) → Grows k l k1 l1 → NeverHasRequest (window k1) → IsRead linked k l k1 l1 (Refused (closing NoHead false))
 unfolding window
 reads_never linked k l k1 l1 p never = reads_at linked k l k1 l1 k1 (Refused (closing NoHead false)) p
@@ -78,7 +76,7 @@ reads_never linked k l k1 l1 p never = reads_at linked k l k1 l1 k1 (Refused (cl
 pub reads_then : (linked : Bool) (k : Bytes) (l : Option Bytes) (k1 : Bytes) (l1 : Option Bytes) (k2 : Bytes) (l2 : Option Bytes) (got : Incoming) → Grows k l k1 l1 → IsRead linked k1 l1 k2 l2 got → IsRead linked k l k2 l2 got
 reads_then linked k None k1 l1 k2 l2 got p r = tt
 reads_then linked k (Some s) k1 None k2 l2 got p r = absurd p.taken
-reads_then linked k (Some s) k1 (Some s1) k2 None got p r = tt
+reads_then linked k (Some s) k1 (Some s1) k2 None got p r = absurd r
 reads_then linked k (Some s) k1 (Some s1) k2 (Some s2) got p r = subst (λ z. Reads linked z got (k2 ++ s2)) (sym (input_is k s k1 s1 p)) r
 
 head_more : (k s : Bytes) (h : RequestHead) (n : ℕ) → HasHead k h (drop n k) → HasHead (k ++ s) h (drop n k ++ s)

@@ -1,12 +1,6 @@
-pub mod Pieces
-pub mod Windows
-pub mod Counts
-pub mod Heads
 pub mod Inputs
 pub mod FieldValues
 pub mod Utf8
 pub mod Bars
 pub mod Named
 pub mod EditFields
-pub mod WindowLaws
-pub mod HeadsInWindows

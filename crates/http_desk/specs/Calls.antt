@@ -6,7 +6,7 @@ use Rattle.std.specs.Str.Lossy.{utf8_lossy}
 use Rattle.percent_encoding.specs.Percent.{percent_decode}
 use Rattle.form_urlencoded.specs.Form.{raw_pairs, decode}
 use Rattle.wiki_model.specs.Bytes.{Bytes, begins, pieces, first_of_list}
-use Rattle.wiki_model.specs.Limits.{text_max, number_limit}
+use Rattle.wiki_model.specs.Limits.{text_max, number_limit, jobs_max}
 use Rattle.wiki_model.specs.Titles.{Title, TitleRefusal, title_of, is_token, with_line_feeds}
 use Rattle.wiki_model.specs.Cookies.{are_digits, number_in}
 use Rattle.wiki_model.specs.Asking.{Call, PageCall, EditCall, BatchCall, FeedCall, MessagesCall, Request, Fault, BadTarget, NoRoute, WrongMethod, BadTitle, BadField, LargeText}
@@ -145,14 +145,11 @@ edit_call form =
 abbrev pub batch_texts : Pairs → List Bytes
 batch_texts query = flat_map (pieces 124) (named (codes "titles") query)
 
--- a batch has at most this many titles
-abbrev pub batch_limit : ℕ
-batch_limit = 16
-
+-- a batch has one to `jobs_max` titles
 abbrev pub batch_with : (once : Bool) (texts : List Bytes) → Result Call Fault
 batch_with once texts =
     if list_all is_title texts then
-    (if once && nat_le (length texts) batch_limit then Ok (BatchCall (map the_title texts)) else Err BadField)
+    (if once && nat_le (length texts) jobs_max then Ok (BatchCall (map the_title texts)) else Err BadField)
     else Err BadTitle
 
 abbrev pub batch_call : Pairs → Result Call Fault

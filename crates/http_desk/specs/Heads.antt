@@ -7,12 +7,9 @@ use Rattle.httparse.specs.declared.spans.RequestSpans.{RequestSpans}
 use Rattle.httparse.specs.Grammar.{RequestHead}
 use Rattle.httparse.specs.Spans.{IsHeaderWithin, span_bytes, header_bytes, name_and_value}
 use Rattle.wiki_model.specs.Bytes.{Bytes, first_of_list}
+use Rattle.wiki_model.specs.Limits.{body_max}
 use Rattle.wiki_model.specs.Cookies.{Cookies, cookies_in, are_digits, number_in}
 use Rattle.wiki_model.specs.Asking.{Fault, Transfer, BadHost, BadLength, LargeBody}
-
--- a body has at most this many bytes
-abbrev pub body_limit : ℕ
-body_limit = 262_144
 
 -- what a head says
 pub record Head : Type 0 where
@@ -94,7 +91,7 @@ declared_length lengths = if are_lengths lengths then Some (length_in lengths) e
 
 abbrev pub length_fault : Option ℕ → Option Fault
 length_fault None = Some BadLength
-length_fault (Some n) = if nat_lt body_limit n then Some (LargeBody n) else None
+length_fault (Some n) = if nat_lt body_max n then Some (LargeBody n) else None
 
 -- the first refusal that the head alone gives
 abbrev pub fault_in : (minor : ℕ) → Fields → Option Fault

@@ -1,33 +1,12 @@
 -- Which bytes of a connection are a request, and how its input ends.
-use Rattle.std.specs.Prelude.{ℕ, ◌≡◌, ◌≢◌, ◌⊎◌, ◌<◌, ◌≤◌, Bool, true, false, List, [], ◌++◌, length, drop, take, Option, Some, None, Result, Ok, Err}
+use Rattle.std.specs.Prelude.{◌≡◌, ◌≢◌, ◌⊎◌, ◌<◌, Bool, true, false, [], ◌++◌, length, Option, Some, None, Result, Ok, Err}
 use Rattle.std.specs.Io.KnownBytes.{Consumes}
-use Rattle.httparse.specs.declared.spans.HeaderSpan.{HeaderSpan}
-use Rattle.httparse.specs.declared.spans.RequestSpans.{RequestSpans}
-use Rattle.httparse.specs.Grammar.{RequestHead, print_request, ReadsRequest, HasNoRequest, NeverHasRequest, MayBecomeRequest}
-use Rattle.httparse.specs.Spans.{IsRequestAt, IsRequestWithin}
+use Rattle.httparse.specs.Grammar.{RequestHead}
 use Rattle.wiki_model.specs.Bytes.{Bytes}
 use Rattle.wiki_model.specs.Asking.{Call, Request, Refusal, Fault, HeadTooLarge, NoHead}
-use Rattle.http_desk.specs.Window.{window_of, is_full_of}
+use Rattle.http_head.specs.Input.{is_full, HasHead, IsOpen, Shows}
 use Rattle.http_desk.specs.Heads.{Head, said_by, head_fault, body_length, asks_to_close, is_head_method}
 use Rattle.http_desk.specs.Calls.{call_of, request_of}
-
--- a head has at most this many bytes and fields; after the empty lines at the start, the line of one field too many
--- is the last that is looked at
-abbrev pub head_limit : ℕ
-head_limit = 16_384
-
-abbrev pub field_limit : ℕ
-field_limit = 64
-
-abbrev pub line_limit : ℕ
-line_limit = 66
-
--- The part of an input that is looked at for a head, and whether more bytes would not be.
-unfoldable pub window : Bytes → Bytes
-window bytes = window_of head_limit line_limit bytes
-
-unfoldable pub is_full : Bytes → Bool
-is_full bytes = is_full_of head_limit line_limit bytes
 
 -- what a read of one request gives
 pub data Incoming : Type 0 where
@@ -35,23 +14,6 @@ pub data Incoming : Type 0 where
   Refused : Refusal → Incoming
   Closed : Incoming
   Cut : Incoming
-
--- The bytes begin with this head, which is within the limits.
-pub record HasHead (bytes : Bytes) (h : RequestHead) (rest : Bytes) : Type 0 where
-  pub reads : ReadsRequest bytes h rest
-  pub small : length (print_request h) ≤ head_limit
-  pub few : length h.fields ≤ field_limit
-
--- the bytes are no head yet, and may become one
-pub record IsOpen (bytes : Bytes) : Type 0 where
-  pub no_head : HasNoRequest bytes
-  pub may_become : MayBecomeRequest bytes
-
--- the bytes show that an input that begins with them is refused so
-abbrev pub Shows : (bytes : Bytes) → Fault → Type 0
-Shows bytes HeadTooLarge = (is_full bytes ≡ true) × IsOpen (window bytes)
-Shows bytes NoHead = NeverHasRequest (window bytes)
-Shows bytes _ = ⊥
 
 abbrev pub closing : Fault → (head : Bool) → Refusal
 closing fault head = record { fault = fault; head = head; close = true }
@@ -85,12 +47,12 @@ Reads linked input got rest =
     × ReadsAfter linked (said_by h) (head_fault (said_by h)) after got rest)
 
 -- One read over a source that exposes its bytes: what was kept from before and what was left of the source begin with
--- this, and the same two afterwards are the rest.
+-- this, and the same two afterwards are the rest. A source that exposed its bytes goes on exposing them.
 abbrev pub IsRead : (linked : Bool) → (kept_before : Bytes) → (left_before : Option Bytes) → (kept_after : Bytes)
     → (left_after : Option Bytes) → Incoming → Type 0
 IsRead linked kept_before (Some left_before) kept_after (Some left_after) got =
     Reads linked (kept_before ++ left_before) got (kept_after ++ left_after)
-IsRead linked kept_before (Some left_before) kept_after None got = Unit {0}
+IsRead linked kept_before (Some left_before) kept_after None got = ⊥
 IsRead linked kept_before None kept_after left_after got = Unit {0}
 
 -- The parts of one read
@@ -101,11 +63,3 @@ pub record Grows (kept_before : Bytes) (left_before : Option Bytes) (kept_after 
   pub more : Bytes
   pub kept : kept_after ≡ kept_before ++ more
   pub taken : Consumes left_before left_after more
-
--- the first bytes, as many as are seen, hold a head that lies where the spans say
-pub record IsHeadIn (kept : Bytes) (seen : ℕ) (headers : List HeaderSpan) (spans : RequestSpans)
-    (h : RequestHead) : Type 0 where
-  pub within : seen ≤ length kept
-  pub inside : IsRequestWithin (take seen kept) headers spans
-  pub at : IsRequestAt (take seen kept) headers spans h
-  pub head : HasHead kept h (drop spans.len kept)

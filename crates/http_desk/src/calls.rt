@@ -4,7 +4,6 @@ ghost use Rattle.wiki_model.specs.Titles.{with_line_feeds};
 ghost use Rattle.http_desk.specs.Calls.{call_of_route, call_on, page_call, edit_call, batch_call, call_in, pairs_in, named, base_in, edit_text, edit_fields, edit_with, batch_with};
 ghost use Rattle.http_desk.specs.AsModel.{ReadsCall, route_shown};
 
-use crate::refusal::Fault;
 use crate::request::Call;
 use crate::routes::{Route, has_method, path_of, query_of, route_of, takes_post};
 use crate::texts::number_in;
@@ -15,6 +14,7 @@ use crate::titles::{
 use farm_base::Memory;
 use farm_base::bytes::DIGITS_MAX;
 use form_urlencoded::parse;
+use http_reply::Fault;
 use percent_encoding::{DecodeError, percent_decode};
 use std::alloc::Global;
 use wiki_titles::{Text, TextFault, Title, Token, TokenFault};
@@ -76,7 +76,7 @@ fn call_of_route(alloc: Global, route: Route<'_>, query: &[u8], body: &[u8]) -> 
     }
 }
 
-#[tactic(auto, using(crate::proofs::Utf8::is_text, crate::proofs::Utf8::not_text))]
+#[tactic(auto, using(crate::proofs::Utf8::is_text, farm_base::proofs::Pieces::not_utf8))]
 fn page_call(alloc: Global, rest: &[u8]) -> Outcome
     ensures { ReadsCall result (page_call rest.now) }
 {

@@ -8,9 +8,9 @@ ghost use Rattle.http_desk.specs.Heads.{value_if, values, values_from, AreWithin
 ghost use Rattle.http_desk.specs.AsModel.{fault_found};
 ghost use Rattle.sticky_routes.specs.AsModel.{cookies_of};
 
-use crate::refusal::Fault;
 use crate::texts::{is_text, number_in, owned};
 use farm_base::Memory;
+use http_reply::Fault;
 use httparse::spans::HeaderSpan;
 use std::alloc::Global;
 use std::str;

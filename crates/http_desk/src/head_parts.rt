@@ -8,11 +8,11 @@ ghost use Rattle.http_desk.specs.AsModel.{said_in, fault_found, call_shown, requ
 
 use crate::calls::{Outcome, call_in};
 use crate::fields::{BODY_MAX, asks_to_close, body_length, cookies_in, first_value};
-use crate::find_head::ROOM;
-use crate::refusal::{Fault, Refusal};
 use crate::request::{Call, Incoming, Request};
 use crate::routes::{is_get, is_head};
 use farm_base::Memory;
+use http_head::ROOM;
+use http_reply::{Fault, Refusal};
 use httparse::spans::{HeaderSpan, RequestSpans};
 use std::alloc::Global;
 

@@ -4,17 +4,19 @@ ghost use Rattle.std.specs.Io.KnownBytes.{IsAtEnd};
 ghost use Rattle.wiki_model.specs.Steps.{Rose};
 ghost use Rattle.httparse.specs.Grammar.{RequestHead, NeverHasRequest};
 ghost use Rattle.httparse.specs.Spans.{IsRequestWithin};
-ghost use Rattle.http_desk.specs.Incoming.{window, is_full, IsOpen, IsHeadIn, Grows, IsRead};
+ghost use Rattle.http_head.specs.Input.{window, is_full, IsOpen, IsHeadIn};
+ghost use Rattle.http_desk.specs.Incoming.{Grows, IsRead};
 ghost use Rattle.http_desk.specs.Heads.{said_by, head_fault, body_length};
-ghost use Rattle.http_desk.specs.AsModel.{incoming_shown, fault_of};
+ghost use Rattle.http_desk.specs.AsModel.{incoming_shown};
+ghost use Rattle.http_reply.specs.AsModel.{fault_of};
 
 use crate::fields::BODY_MAX;
-use crate::find_head::{HeadPlace, KeptBytes, ROOM, find_head};
 use crate::head_parts::{incoming_at, is_head_at, length_at};
 use crate::kept_bytes::{FillEnd, More, drop_prefix, fill, read_more};
-use crate::refusal::{Fault, Refusal};
 use crate::request::Incoming;
 use farm_base::Source;
+use http_head::{HeadPlace, KeptBytes, ROOM, find_head};
+use http_reply::{Fault, Refusal};
 use httparse::spans::{EMPTY_HEADER_SPAN, HeaderSpan};
 use std::alloc::Global;
 

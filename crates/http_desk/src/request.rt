@@ -1,5 +1,5 @@
 // Requests, and what a read of one answers.
-use crate::refusal::Refusal;
+use http_reply::Refusal;
 use sticky_routes::Cookies;
 use wiki_titles::{Text, Title, Token};
 

@@ -21,7 +21,7 @@ pub(crate) fn number_in(text: &[u8], most: usize) -> Option<u64>
 }
 
 /// Whether the bytes are UTF-8.
-#[tactic(auto, using(crate::proofs::Utf8::is_text, crate::proofs::Utf8::not_text))]
+#[tactic(auto, using(crate::proofs::Utf8::is_text, farm_base::proofs::Pieces::not_utf8))]
 pub(crate) fn is_text(bytes: &[u8]) -> bool
     ensures { result ≡ is_utf8 bytes.now }
 {

@@ -1,58 +1,134 @@
--- The templates that a text names, by its marks and in order.
-use Rattle.std.proofs.Common.{suc, [], ◌∷◌, ◌++◌, List, length, drop, ◌≡◌, ℕ, ◌<◌, ◌+◌, refl, arith, ap, sym, ◌∙◌, Some, None, get_or, append_assoc, append-nil, subst, true}
-use Rattle.std.specs.Prelude.{Option, codes, option_and_then, ◌↔◌, bytes_eq}
-use Rattle.std.specs.List.{Contains, dedup}
+-- The titles that a text names, found place by place; which of them were named before; and their order.
+use Rattle.std.proofs.Common.{suc, [], ◌∷◌, ◌++◌, List, length, drop, ◌≡◌, ℕ, ◌≤◌, ◌<◌, ◌+◌, refl, arith, ap, sym, ◌∙◌, Some, None, get_or, replicate, append-nil, inl, inr, Result, Ok, Err, subst, true}
+use Rattle.std.specs.Prelude.{◌↔◌, ◌⊎◌, IfOk, bytes_eq, slice_set}
+use Rattle.std.specs.List.{All, Contains, dedup}
 use Rattle.std.specs.List.Sorted.{IsSorted, IsPermutation, IsStrictlySortedBy}
 use Rattle.std.specs.Cmp.Lexicographic.{same_text, nat_list_eq_equiv, nat_list_cmp_total, texts_ties}
+use Rattle.std.proofs.lemmas.List.{drop_all}
+use Rattle.std.proofs.lemmas.List.Elements.{All-get_or, All-replicate, All-set, All-weaker, Contains-append_left, Contains-append_right, Contains-append_cases}
 use Rattle.std.proofs.lemmas.List.Kept.{IsStrictlySortedBy-dedup, Contains-dedup, Contains-from_dedup}
 use Rattle.std.proofs.lemmas.List.Sorted.{Contains-permutation, IsPermutation-sym}
 use Rattle.std.proofs.Math.Seq.{drop-cons}
 use Rattle.wiki_titles.specs.Order.{bytes_cmp}
 use Rattle.wiki_model.specs.Bytes.{Bytes}
 use Rattle.wiki_model.specs.Titles.{Title}
-use Rattle.wiki_model.specs.Html.{bracketed, template_named}
-use Rattle.page_markup.specs.declared.inline.Mark.{Mark}
-use Rattle.page_markup.specs.Mark.{bracket_marks_of, named_marks_of}
-use Rattle.page_markup.specs.Names.{listed, name_here, names_from, template_marks, template_marks_from, titles_of}
+use Rattle.page_markup.specs.declared.collect_names.Lines.{Lines}
+use Rattle.page_markup.specs.declared.collect_names.Lines.TheVariants.{Kept, AsSpaces}
+use Rattle.page_markup.specs.declared.collect_names.Span.{Span}
+use Rattle.page_markup.specs.ClosingPlaces.{between}
+use Rattle.page_markup.specs.Names.{AddsNames, AreNames, AreRecent, IsRecent, name_here, named_between, names_from, nothing, read_as}
 
-titles_append : (xs ys : List Mark) → titles_of (xs ++ ys) ≡ titles_of xs ++ titles_of ys
-titles_append [] ys = refl
-titles_append (m ∷ xs) ys = ap (λ ts. listed m.title ++ ts) (titles_append xs ys) ∙ sym (append_assoc (listed m.title) (titles_of xs) (titles_of ys))
+-- names more
 
-one_title : (at : ℕ) (inner : Bytes) (t : Option Title) → titles_of (named_marks_of 5 at inner t) ≡ listed t
-one_title at inner None = refl
-one_title at inner (Some t) = refl
+pub adds_nothing : (old : List Title) → AddsNames old old []
+adds_nothing old t = (
+  λ h. Contains-append_left old [] t h,
+  λ h. subst (λ ts. Contains ts t) (append-nil old) h,
+)
 
-here_by : (at : ℕ) (o : Option (Bytes × Bytes)) → titles_of (bracket_marks_of 5 at template_named o) ≡ listed (option_and_then (λ p. template_named p.0) o)
-here_by at None = refl
-here_by at (Some p) = one_title at p.0 (template_named p.0)
+pub adds_known : (old more : List Title) → ((t : Title) → Contains more t → Contains old t) → AddsNames old old more
+adds_known old more known t = (
+  λ h. Contains-append_left old more t h,
+  λ h. by (Contains-append_cases old more t h),
+) where
+  by : Contains old t ⊎ Contains more t → Contains old t
+  by (inl h) = h
+  by (inr h) = known t h
 
-titles_here : (at : ℕ) (text : Bytes) → titles_of (template_marks at text) ≡ name_here text
-titles_here at text = here_by at (bracketed (codes "{{") (codes "}}") text)
+pub adds_exactly : (old new more : List Title) → new ≡ old ++ more → AddsNames old new more
+adds_exactly old new more e t = (λ h. subst (λ ts. Contains ts t) e h, λ h. subst (λ ts. Contains ts t) (sym e) h)
 
-pub titles_are : (at : ℕ) (text : Bytes) → titles_of (template_marks_from at text) ≡ names_from text
-titles_are at [] = refl
-titles_are at (c ∷ rest) =
-    titles_append (template_marks at (c ∷ rest)) (template_marks_from (suc at) rest)
-    ∙ ap (λ ts. ts ++ titles_of (template_marks_from (suc at) rest)) (titles_here at (c ∷ rest))
-    ∙ ap (λ ts. name_here (c ∷ rest) ++ ts) (titles_are (suc at) rest)
+-- a place more
 
-template_marks_on : (at : ℕ) (text : Bytes) → at < length text → template_marks_from at (drop at text) ≡ template_marks at (drop at text) ++ template_marks_from (at + 1) (drop (at + 1) text)
-template_marks_on at text h =
+pub names_on : (lines : Lines) (text : Bytes) (at : ℕ) → at < length text
+    → names_from (read_as lines (drop at text)) ≡ name_here (read_as lines (drop at text)) ++ names_from (read_as lines (drop (at + 1) text))
+names_on lines text at h =
     let f : drop at text ≡ get_or text at 0 ∷ drop (suc at) text = drop-cons text at 0 h in
     let e : suc at ≡ at + 1 = omega arith in
-    ap (template_marks_from at) f ∙ ap (λ s. template_marks at s ++ template_marks_from (suc at) (drop (suc at) text)) (sym f) ∙ ap (λ k. template_marks at (drop at text) ++ template_marks_from k (drop k text)) e
+    ap (λ s. names_from (read_as lines s)) f ∙ first lines (get_or text at 0) (drop (suc at) text)
+    ∙ ap (λ s. name_here (read_as lines s) ++ names_from (read_as lines (drop (suc at) text))) (sym f)
+    ∙ ap (λ k. name_here (read_as lines (drop at text)) ++ names_from (read_as lines (drop k text))) e
+  where
+    first : (lines : Lines) (c : ℕ) (rest : Bytes) → names_from (read_as lines (c ∷ rest)) ≡ name_here (read_as lines (c ∷ rest)) ++ names_from (read_as lines rest)
+    first Kept c rest = refl
+    first AsSpaces c rest = refl
 
-pub templates_more : (old new : List Mark) (at : ℕ) (text : Bytes) → at < length text → new ≡ old ++ template_marks at (drop at text)
-    → old ++ template_marks_from at (drop at text) ≡ template_marks_from 0 text → new ++ template_marks_from (at + 1) (drop (at + 1) text) ≡ template_marks_from 0 text
-templates_more old new at text h e i =
-    ap (λ ms. ms ++ template_marks_from (at + 1) (drop (at + 1) text)) e ∙ append_assoc old (template_marks at (drop at text)) (template_marks_from (at + 1) (drop (at + 1) text))
-    ∙ ap (λ ms. old ++ ms) (sym (template_marks_on at text h)) ∙ i
+-- these titles, with those that the text names from the place on, are all that it names
+abbrev pub HasNames : Lines → (text : Bytes) → (at : ℕ) → List Title → Type 0
+HasNames lines text at titles = (t : Title) → Contains (titles ++ names_from (read_as lines (drop at text))) t ↔ Contains (names_from (read_as lines text)) t
 
--- the title of a mark more
-pub title_more : (ts new : List Title) (marks : List Mark) (m : Mark) → ts ≡ titles_of marks → new ≡ ts ++ listed m.title → new ≡ titles_of (marks ++ (m ∷ []))
-title_more ts new marks m e w =
-    w ∙ ap (λ us. us ++ listed m.title) e ∙ ap (λ us. titles_of marks ++ us) (sym (append-nil (listed m.title))) ∙ sym (titles_append marks (m ∷ []))
+joined : (old new more rest : List Title) → AddsNames old new more → (t : Title) → Contains (new ++ rest) t ↔ Contains (old ++ (more ++ rest)) t
+joined old new more rest adds t = (λ h. on (Contains-append_cases new rest t h), λ h. back (Contains-append_cases old (more ++ rest) t h)) where
+  after : Contains old t ⊎ Contains more t → Contains (old ++ (more ++ rest)) t
+  after (inl h) = Contains-append_left old (more ++ rest) t h
+  after (inr h) = Contains-append_right old (more ++ rest) t (Contains-append_left more rest t h)
+
+  on : Contains new t ⊎ Contains rest t → Contains (old ++ (more ++ rest)) t
+  on (inl h) = after (Contains-append_cases old more t ((adds t).0 h))
+  on (inr h) = Contains-append_right old (more ++ rest) t (Contains-append_right more rest t h)
+
+  then : Contains more t ⊎ Contains rest t → Contains (new ++ rest) t
+  then (inl h) = Contains-append_left new rest t ((adds t).1 (Contains-append_right old more t h))
+  then (inr h) = Contains-append_right new rest t h
+
+  back : Contains old t ⊎ Contains (more ++ rest) t → Contains (new ++ rest) t
+  back (inl h) = Contains-append_left new rest t ((adds t).1 (Contains-append_left old more t h))
+  back (inr h) = then (Contains-append_cases more rest t h)
+
+pub name_more : (lines : Lines) (text : Bytes) (old new : List Title) (at : ℕ) → at < length text
+    → AddsNames old new (name_here (read_as lines (drop at text))) → HasNames lines text at old → HasNames lines text (at + 1) new
+name_more lines text old new at h adds has t =
+    let here = name_here (read_as lines (drop at text)) in
+    let rest = names_from (read_as lines (drop (at + 1) text)) in
+    let same = joined old new here rest adds t in (
+      λ c. (has t).0 (subst (λ ts. Contains (old ++ ts) t) (sym (names_on lines text at h)) (same.0 c)),
+      λ c. same.1 (subst (λ ts. Contains (old ++ ts) t) (names_on lines text at h) ((has t).1 c)),
+    )
+
+pub begins_named : (lines : Lines) (text : Bytes) → HasNames lines text 0 []
+begins_named lines text t = (λ h. h, λ h. h)
+
+-- nothing is left
+all_named : (lines : Lines) (text : Bytes) (titles names : List Title) (at : ℕ) → length text ≤ at → HasNames lines text at titles → AreNames titles names
+    → AreNames (names_from (read_as lines text)) names
+all_named lines text titles names at h has are = record {
+  sorted = are.sorted;
+  same = λ t. (λ c. (whole t).0 ((are.same t).0 c), λ c. (are.same t).1 ((whole t).1 c));
+} where
+  none : (lines : Lines) → names_from (read_as lines []) ≡ []
+  none Kept = refl
+  none AsSpaces = refl
+
+  end : titles ++ names_from (read_as lines (drop at text)) ≡ titles
+  end = ap (λ s. titles ++ names_from (read_as lines s)) (drop_all at text h) ∙ ap (λ ts. titles ++ ts) (none lines) ∙ append-nil titles
+
+  whole : (t : Title) → Contains titles t ↔ Contains (names_from (read_as lines text)) t
+  whole t = (λ c. (has t).0 (subst (λ ts. Contains ts t) (sym end) c), λ c. subst (λ ts. Contains ts t) end ((has t).1 c))
+
+pub if_named : {V E : Type 0} (result : Result V E) (items : V → List Title) (lines : Lines) (text : Bytes) (titles : List Title) (at : ℕ) → length text ≤ at → HasNames lines text at titles
+    → IfOk result (λ v. AreNames titles (items v)) → IfOk result (λ v. AreNames (names_from (read_as lines text)) (items v))
+if_named (Ok v) items lines text titles at h has are = all_named lines text titles (items v) at h has are
+if_named (Err e) items lines text titles at h has are = tt
+
+-- what was named just now
+
+pub begins_recent : (lines : Lines) (text : Bytes) (titles : List Title) (n : ℕ) → AreRecent lines text titles (replicate n nothing)
+begins_recent lines text titles n = All-replicate (IsRecent lines text titles) n _ (nothing lines) where
+  nothing : (lines : Lines) → IsRecent lines text titles (let s : Span = record { start = 0; end = 0 } in s)
+  nothing Kept t c = let z : ⊥ = omega (arith, c.1) in elim z [ ]
+  nothing AsSpaces t c = let z : ⊥ = omega (arith, c.1) in elim z [ ]
+
+pub is_recent : (lines : Lines) (text name : Bytes) (titles : List Title) (spans : List Span) (place : ℕ) (d : Span) → place < length spans
+    → between (get_or spans place d).start (get_or spans place d).end text ≡ name → AreRecent lines text titles spans → AddsNames titles titles (named_between lines name)
+is_recent lines text name titles spans place d h e are =
+    adds_known titles (named_between lines name)
+    (λ t c. All-get_or (IsRecent lines text titles) spans place d h are t (subst (λ n. Contains (named_between lines n) t) (sym e) c))
+
+pub stays_recent : (lines : Lines) (text : Bytes) (old new more : List Title) (spans : List Span) (place : ℕ) (span : Span) → new ≡ old ++ more
+    → more ≡ named_between lines (between span.start span.end text) → AreRecent lines text old spans → AreRecent lines text new (slice_set spans place span)
+stays_recent lines text old new more spans place span e m are =
+    All-set (IsRecent lines text new) spans place span (λ t c. subst (λ ts. Contains ts t) (sym e) (Contains-append_right old more t (subst (λ ts. Contains ts t) (sym m) c)))
+    (All-weaker (IsRecent lines text old) (IsRecent lines text new) (λ s known t c. subst (λ ts. Contains ts t) (sym e) (Contains-append_left old more t (known t c))) spans are)
 
 -- sorted, each once
 pub rising : (sorted names : List Title) → IsSorted bytes_cmp sorted → names ≡ dedup bytes_eq sorted → IsStrictlySortedBy bytes_cmp names

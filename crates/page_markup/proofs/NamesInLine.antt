@@ -1,15 +1,17 @@
--- The templates that a text names when it is read in one line. Braces stand there where they stand in the text, since neither a line
--- feed nor a space is one; so it is enough to read in one line what stands between them.
-use Rattle.std.proofs.Common.{zero, suc, [], ◌∷◌, ◌++◌, List, length, take, drop, ◌≡◌, ℕ, ◌≤◌, ◌<◌, ◌+◌, ◌-◌, Bool, true, false, cond, refl, arith, ap, sym, ◌∙◌, Some, None, nat_eq, nat_le, get_or, append_assoc, append-nil}
+-- The templates that a text names, as it stands or when it is read in one line. In one line, braces stand where they stand in the text,
+-- since neither a line feed nor a space is one; so it is enough to read in one line what stands between them.
+use Rattle.std.proofs.Common.{zero, suc, [], ◌∷◌, ◌++◌, List, length, take, drop, ◌≡◌, ℕ, ◌≤◌, ◌<◌, ◌+◌, ◌-◌, Bool, true, false, cond, refl, arith, ap, sym, ◌∙◌, Some, None, nat_eq, nat_le, subst}
 use Rattle.std.specs.Prelude.{Option, codes, option_map, option_and_then, if◌then◌else◌, ◌&&◌, ⊤}
 use Rattle.std.proofs.lemmas.Bool.Decides.{nat_tests}
 use Rattle.std.proofs.lemmas.List.{length-map, length-drop, take_all, drop_all}
-use Rattle.std.proofs.Math.Seq.{drop-cons}
 use Rattle.wiki_model.specs.Bytes.{Bytes, begins, cut_at, line_feed, replaced, space}
 use Rattle.wiki_model.specs.Titles.{Title}
 use Rattle.wiki_model.specs.Html.{bracketed, if_short, template_named}
 use Rattle.page_markup.specs.ClosingPlaces.{between, cut_within}
-use Rattle.page_markup.specs.Names.{listed, name_here, names_from}
+use Rattle.page_markup.specs.declared.collect_names.Lines.{Lines}
+use Rattle.page_markup.specs.declared.collect_names.Lines.TheVariants.{Kept, AsSpaces}
+use Rattle.page_markup.specs.Names.{AddsNames, listed, name_here, named_between, read_as}
+use Rattle.page_markup.proofs.Named.{adds_nothing}
 
 abbrev pub in_line : Bytes → Bytes
 in_line s = replaced line_feed space s
@@ -84,42 +86,35 @@ bracketed_same opening closing s h k =
     refl
     ∙ map_cond (begins opening s) (option_and_then if_short (cut_at closing (drop (length opening) s))) None
 
-abbrev names_of : Option (Bytes × Bytes) → List Title
-names_of o = listed (option_and_then (λ p. template_named p.0) o)
+abbrev names_of : Lines → Option (Bytes × Bytes) → List Title
+names_of lines o = listed (option_and_then (λ p. template_named (read_as lines p.0)) o)
+
+spaced : (o : Option (Bytes × Bytes)) → names_of AsSpaces o ≡ names_of Kept (option_map both o)
+spaced None = refl
+spaced (Some p) = refl
 
 -- what braces at a place name
-here : (s : Bytes) (o : Option (Bytes × Bytes)) → o ≡ bracketed (codes "{{") (codes "}}") s → names_of (option_map both o) ≡ name_here (in_line s)
-here s o e =
-    ap (λ q. names_of (option_map both q)) e ∙ sym (ap names_of (bracketed_same (codes "{{") (codes "}}") s (refl, refl, (refl, refl, tt)) (refl, refl, (refl, refl, tt))))
+here : (lines : Lines) (s : Bytes) (o : Option (Bytes × Bytes)) → o ≡ bracketed (codes "{{") (codes "}}") s → names_of lines o ≡ name_here (read_as lines s)
+here Kept s o e = ap (names_of Kept) e
+here AsSpaces s o e =
+    spaced o ∙ ap (λ q. names_of Kept (option_map both q)) e
+    ∙ sym (ap (names_of Kept) (bracketed_same (codes "{{") (codes "}}") s (refl, refl, (refl, refl, tt)) (refl, refl, (refl, refl, tt))))
 
 rest_is : (text : Bytes) (at : ℕ) → between at (length text) text ≡ drop at text
 rest_is text at = take_all (length text - at) (drop at text) (omega (arith, length-drop at text))
 
-pub name_found : (text : Bytes) (old new : List Title) (at close : ℕ) (title : Option Title)
+at_place : (text : Bytes) (at : ℕ) (found : Option ℕ) → cut_within 2 at (length text) text found ≡ bracketed (codes "{{") (codes "}}") (between at (length text) text)
+    → cut_within 2 at (length text) text found ≡ bracketed (codes "{{") (codes "}}") (drop at text)
+at_place text at found e = e ∙ ap (bracketed (codes "{{") (codes "}}")) (rest_is text at)
+
+pub name_found : (lines : Lines) (text : Bytes) (old new : List Title) (at close : ℕ)
     → cut_within 2 at (length text) text (Some close) ≡ bracketed (codes "{{") (codes "}}") (between at (length text) text)
-    → title ≡ template_named (in_line (between (at + 2) close text)) → new ≡ old ++ listed title → new ≡ old ++ name_here (in_line (drop at text))
-name_found text old new at close title e t n =
-    n ∙ ap (λ ts. old ++ ts)
-    (ap listed t ∙ here (drop at text) (Some (between (at + 2) close text, between (close + 2) (length text) text)) (e ∙ ap (bracketed (codes "{{") (codes "}}")) (rest_is text at)))
+    → AddsNames old new (named_between lines (between (at + 2) close text)) → AddsNames old new (name_here (read_as lines (drop at text)))
+name_found lines text old new at close e adds =
+    subst (AddsNames old new)
+    (here lines (drop at text) (Some (between (at + 2) close text, between (close + 2) (length text) text)) (at_place text at (Some close) e)) adds
 
-pub no_name : (text : Bytes) (old : List Title) (at : ℕ) → cut_within 2 at (length text) text None ≡ bracketed (codes "{{") (codes "}}") (between at (length text) text)
-    → old ≡ old ++ name_here (in_line (drop at text))
-no_name text old at e =
-    sym (append-nil old) ∙ ap (λ ts. old ++ ts) (here (drop at text) None (e ∙ ap (bracketed (codes "{{") (codes "}}")) (rest_is text at)))
-
--- a place more
-pub name_more : (old new : List Title) (at : ℕ) (text : Bytes) → at < length text → new ≡ old ++ name_here (in_line (drop at text))
-    → old ++ names_from (in_line (drop at text)) ≡ names_from (in_line text) → new ++ names_from (in_line (drop (at + 1) text)) ≡ names_from (in_line text)
-name_more old new at text h e i =
-    let c = get_or text at 0 in
-    let f : drop at text ≡ c ∷ drop (suc at) text = drop-cons text at 0 h in
-    let here_on : names_from (in_line (drop at text)) ≡ name_here (in_line (drop at text)) ++ names_from (in_line (drop (at + 1) text)) =
-    ap (λ s. names_from (in_line s)) f ∙ ap (λ s. name_here (in_line s) ++ names_from (in_line (drop (suc at) text))) (sym f)
-    ∙ ap (λ k. name_here (in_line (drop at text)) ++ names_from (in_line (drop k text))) (let z : suc at ≡ at + 1 = omega arith in z) in
-    ap (λ ts. ts ++ names_from (in_line (drop (at + 1) text))) e ∙ append_assoc old (name_here (in_line (drop at text))) (names_from (in_line (drop (at + 1) text)))
-    ∙ ap (λ ts. old ++ ts) (sym here_on) ∙ i
-
--- nothing is left
-pub all_named : (titles : List Title) (at : ℕ) (text : Bytes) → length text ≤ at → titles ++ names_from (in_line (drop at text)) ≡ names_from (in_line text) → titles ≡ names_from (in_line text)
-all_named titles at text h i =
-    sym (append-nil titles) ∙ ap (λ s. titles ++ names_from (in_line s)) (sym (let z : drop at text ≡ [] = drop_all at text h in z)) ∙ i
+pub no_name : (lines : Lines) (text : Bytes) (old : List Title) (at : ℕ)
+    → cut_within 2 at (length text) text None ≡ bracketed (codes "{{") (codes "}}") (between at (length text) text)
+    → AddsNames old old (name_here (read_as lines (drop at text)))
+no_name lines text old at e = subst (AddsNames old old) (here lines (drop at text) None (at_place text at None e)) (adds_nothing old)

@@ -7,4 +7,5 @@ between from to text = take (to - from) (drop from text)
 
 -- the text that marks of this width enclose, from a place to where the second one stands, and the text behind it
 abbrev pub cut_within : (width at to : ℕ) → Bytes → Option ℕ → Option (Bytes × Bytes)
-cut_within width at to text found = option_map (λ close. (between (at + width) close text, between (close + width) to text)) found
+cut_within width at to text found =
+    option_map (λ close. (between (at + width) close text, between (close + width) to text)) found

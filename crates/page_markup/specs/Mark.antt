@@ -12,7 +12,12 @@ abbrev pub link_target : Bytes → Option Title
 link_target inner = ok_of (title_of (target_and_label inner).0)
 
 abbrev pub mark_with : (rule at opening : ℕ) (inner : Bytes) (title : Option Title) → Mark
-mark_with rule at opening inner title = record { place = at; rule = rule; close = at + opening + length inner; title = title }
+mark_with rule at opening inner title = record {
+  place = at;
+  rule = rule;
+  close = at + opening + length inner;
+  title = title;
+}
 
 -- a pair of quotes round a text that is not empty
 abbrev pub quote_marks_of : (rule at opening : ℕ) → Option (Bytes × Bytes) → List Mark
@@ -48,16 +53,19 @@ abbrev pub bracket_marks_of : (rule at : ℕ) (named : Bytes → Option Title) �
 bracket_marks_of rule at named None = []
 bracket_marks_of rule at named (Some p) = named_marks_of rule at p.0 (named p.0)
 
-abbrev pub bracket_marks : (rule : ℕ) (opening closing : Bytes) (named : Bytes → Option Title) (at : ℕ) (text : Bytes) → List Mark
+abbrev pub bracket_marks :
+    (rule : ℕ) (opening closing : Bytes) (named : Bytes → Option Title) (at : ℕ) (text : Bytes) → List Mark
 bracket_marks rule opening closing named at text = bracket_marks_of rule at named (bracketed opening closing text)
 
 -- the mark of such brackets at a place of a text, if one can be used there
 abbrev pub bracket_marks_at : Names → (at : ℕ) → (text : Bytes) → List Mark
-bracket_marks_at names at text = bracket_marks (rule_of names) (opening_of names) (closing_of names) (named_by names) at (drop at text)
+bracket_marks_at names at text =
+    bracket_marks (rule_of names) (opening_of names) (closing_of names) (named_by names) at (drop at text)
 
 -- the marks of quotes at a place, longer quotes first
 abbrev pub all_quotes : (at : ℕ) (text : Bytes) → List Mark
-all_quotes at text = quote_marks 1 (codes "'''''") at text ++ (quote_marks 2 (codes "'''") at text ++ quote_marks 3 (codes "''") at text)
+all_quotes at text =
+    quote_marks 1 (codes "'''''") at text ++ (quote_marks 2 (codes "'''") at text ++ quote_marks 3 (codes "''") at text)
 
 abbrev pub marks_here : (at : ℕ) (text : Bytes) → List Mark
 marks_here at text =

@@ -37,4 +37,5 @@ AreItemsRead old new end last text =
 -- after the line that ends at `end` the paragraph that began at `from` goes on to `last`
 abbrev pub IsParagraphEnd : (from end last : ℕ) → Bytes → Type 0
 IsParagraphEnd from end last text =
-    paragraph_then (between from end text) (lines_from (drop (end + 1) text)) ≡ paragraph_block (between from last text) ∷ tree_from (drop (last + 1) text)
+    paragraph_then (between from end text) (lines_from (drop (end + 1) text)) ≡ paragraph_block (between from last text)
+    ∷ tree_from (drop (last + 1) text)

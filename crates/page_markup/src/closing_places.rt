@@ -9,13 +9,13 @@ ghost use Rattle.page_markup.specs.Mark.{Remembers, opening_of, closing_of};
 use crate::brackets::Names;
 use crate::find_mark;
 
-/// The bytes that may stand between two brackets or braces: no title has more than 255, and a label fits beside it. A longer text
-/// between them is no link and no template.
+/// The bytes that may stand between two brackets or braces: no title has more than 255, and a label fits beside it. A
+/// longer text between them is no link and no template.
 pub const BRACKET_MAX: usize = 512;
 
-/// What is known of the closing marks of a text at one of its places: for each kind the next place where it stands, or the text's
-/// length if it stands nowhere any more. A place that lies before the one at hand says nothing, and is searched anew. So all calls for
-/// the places of a text, from left to right, look at each byte once for each kind.
+/// What is known of the closing marks of a text at one of its places: for each kind the next place where it stands, or
+/// the text's length if it stands nowhere any more. A place that lies before the one at hand says nothing, and is
+/// searched anew. So all calls for the places of a text, from left to right, look at each byte once for each kind.
 #[derive(Clone, Copy, Debug)]
 pub struct ClosingPlaces {
     /// Five quotes, after at least one byte.
@@ -57,8 +57,8 @@ pub struct Closing {
     pub known: usize,
 }
 
-/// The closing place of the quotes that begin at `at`, in the text that ends at `to`. `known` is the next place of such quotes, as an
-/// earlier call gave it.
+/// The closing place of the quotes that begin at `at`, in the text that ends at `to`. `known` is the next place of such
+/// quotes, as an earlier call gave it.
 #[tactic(auto, using(crate::proofs::Closes::quotes_short, crate::proofs::Closes::quotes_absent, crate::proofs::Closes::quotes_open, crate::proofs::Closes::quotes_closed))]
 pub fn quotes_within(text: &str, quotes: &[u8], at: usize, to: usize, known: usize) -> Closing
     requires order { at ≤ to }
@@ -93,8 +93,8 @@ pub fn quotes_within(text: &str, quotes: &[u8], at: usize, to: usize, known: usi
     }
 }
 
-/// The closing place of the brackets that begin at `at`, in the text that ends at `to`, if at most [`BRACKET_MAX`] bytes stand between them.
-/// `known` is the next place of the closing brackets, as for quotes.
+/// The closing place of the brackets that begin at `at`, in the text that ends at `to`, if at most [`BRACKET_MAX`]
+/// bytes stand between them. `known` is the next place of the closing brackets, as for quotes.
 #[tactic(auto, using(crate::proofs::Closes::brackets_short, crate::proofs::Closes::brackets_absent, crate::proofs::Closes::brackets_open, crate::proofs::Closes::brackets_long, crate::proofs::Closes::brackets_closed))]
 pub fn brackets_within(text: &str, names: Names, at: usize, to: usize, known: usize) -> Closing
     requires order { at ≤ to }

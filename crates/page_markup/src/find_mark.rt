@@ -25,7 +25,8 @@ pub fn find_byte(text: &str, byte: u8, from: usize) -> usize
     find_in(text.as_bytes(), byte, from)
 }
 
-/// The first place at or after `from` where the mark stands, or the text's end; `known` is such a place of an earlier question.
+/// The first place at or after `from` where the mark stands, or the text's end; `known` is such a place of an earlier
+/// question.
 pub fn next_place(text: &str, mark: &[u8], known: usize, from: usize) -> usize
     requires within { from ≤ length text.now }
     requires remembered { Remembers mark.now text.now from known }

@@ -1,17 +1,18 @@
 //! Markup: the lines and blocks of a page's text, and the marks of each text that is read inline.
 //!
-//! A mark is used where it can be, from left to right, and what it can be depends on where its closing mark stands. So a page made of
-//! opening marks alone could cost a search of all its rest at each byte. Here it does not: [`ClosingPlaces`] goes along from place to
-//! place and keeps the next place of each closing mark, and [`quotes_within`] and [`brackets_within`] search only from where an earlier
-//! search ended. Between brackets at most [`BRACKET_MAX`] bytes stand.
+//! A mark is used where it can be, from left to right, and what it can be depends on where its closing mark stands. So
+//! a page made of opening marks alone could cost a search of all its rest at each byte. Here it does not:
+//! [`ClosingPlaces`] goes along from place to place and keeps the next place of each closing mark, and
+//! [`quotes_within`] and [`brackets_within`] search only from where an earlier search ended. Between brackets at most
+//! [`BRACKET_MAX`] bytes stand.
 //!
-//! A reader that wants no tree goes over the text itself: by lines with [`line_at`] and [`paragraph_end`], and by marks with those two.
-//! [`parse`] gives the same as a tree: headings, lists and paragraphs, and for each text in them every mark that could be used.
-//! Which one is used, which template is there and how deep templates nest is for the reader to say, as `page_render` does.
-//! [`template_names`] lists the templates that a text names.
+//! A reader that wants no tree goes over the text itself: by lines with [`line_at`] and [`paragraph_end`], and by marks
+//! with those two. [`parse`] gives the same as a tree: headings, lists and paragraphs, and for each text in them every
+//! mark that could be used. Which one is used, which template is there and how deep templates nest is for the reader to
+//! say, as `page_render` does. [`template_names`] lists the templates that a text names.
 //!
-//! The tree of `== A ==` and, on the next line, `one [[B|two]]` has a heading of level 2 with the text `A`, and a paragraph with one
-//! mark: a link at place 4 that closes at place 11 and leads to `B`.
+//! The tree of `== A ==` and, on the next line, `one [[B|two]]` has a heading of level 2 with the text `A`, and a
+//! paragraph with one mark: a link at place 4 that closes at place 11 and leads to `B`.
 #![tactic(auto)]
 
 mod brackets;
@@ -65,8 +66,8 @@ pub fn with_spaces(alloc: Global, text: &str) -> Result<String, Memory>
     one_line::with_spaces(alloc, text).map_err(|_| Memory)
 }
 
-/// The titles of the templates that the text names, in title order, each once: one for each place where braces name one, whether or
-/// not another mark uses that place.
+/// The titles of the templates that the text names, in title order, each once: one for each place where braces name
+/// one, whether or not another mark uses that place.
 pub fn template_names(alloc: Global, text: &Text) -> Result<Vec<Title>, Memory>
     ensures { IfOk result (λ names. AreNames (names_from text.now) names.items) }
 {
@@ -76,7 +77,8 @@ pub fn template_names(alloc: Global, text: &Text) -> Result<Vec<Title>, Memory>
     }
 }
 
-/// The same of the text with each line feed as a space, as the text of a template is read. A text without one is not copied.
+/// The same of the text with each line feed as a space, as the text of a template is read. A text without one is not
+/// copied.
 pub fn template_names_spaced(alloc: Global, text: &Text) -> Result<Vec<Title>, Memory>
     ensures { IfOk result (λ names. AreNames (names_from (replaced line_feed space text.now)) names.items) }
 {

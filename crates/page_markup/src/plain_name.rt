@@ -8,8 +8,8 @@ ghost use Rattle.page_markup.specs.Names.{is_word, is_plain};
 /// The bytes of a template's name: a title's 255 less the nine of `Template:`.
 const NAME_MAX: usize = 246;
 
-/// The first letter after `Template:` in the title of the template that the name gives, if the name is of ASCII letters and digits
-/// alone and has at most 246 of them; the other bytes are the name's. None of any other name.
+/// The first letter after `Template:` in the title of the template that the name gives, if the name is of ASCII letters
+/// and digits alone and has at most 246 of them; the other bytes are the name's. None of any other name.
 #[tactic(auto, using(crate::proofs::PlainTitles::plain_named))]
 pub fn plain_first(name: &[u8]) -> Option<u8>
     ensures title { IfSome result (λ first.

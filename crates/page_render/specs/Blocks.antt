@@ -30,9 +30,11 @@ list_from read n text = list_then read n (lines_from text)
 abbrev pub list_of : Reader → (included : ℕ) → (first text : Bytes) → Bytes
 list_of read n first text =
     let item = read n first in
-    (codes "<ul>" ++ line_end) ++ (element (codes "<li>") (codes "</li>" ++ line_end) item.html ++ list_from read item.included text)
+    (codes "<ul>" ++ line_end)
+    ++ (element (codes "<li>") (codes "</li>" ++ line_end) item.html ++ list_from read item.included text)
 
--- the page with the blocks of a text at its end; with a list that goes on with its first lines; with the end of a list before them
+-- the page with the blocks of a text at its end; with a list that goes on with its first lines; with the end of a list
+-- before them
 abbrev pub with_blocks : Draft → (depth : ℕ) → Bytes → Bytes
 with_blocks d depth text = d.html ++ blocks_from (reader d depth) d.included text
 
@@ -67,8 +69,10 @@ AreWritten old new depth at next text = with_blocks new depth (drop next text) �
 
 -- so was a list with this first item, whose first line ends at `end`
 abbrev pub IsListWritten : (old new : Draft) → (depth : ℕ) → (first : Bytes) → (end next : ℕ) → Bytes → Type 0
-IsListWritten old new depth first end next text = with_blocks new depth (drop next text) ≡ with_new_list old depth first (drop (end + 1) text)
+IsListWritten old new depth first end next text =
+    with_blocks new depth (drop next text) ≡ with_new_list old depth first (drop (end + 1) text)
 
 -- so were the items after that line
 abbrev pub AreItemsWritten : (old new : Draft) → (depth end next : ℕ) → Bytes → Type 0
-AreItemsWritten old new depth end next text = with_list_end new depth (drop next text) ≡ with_list old depth (drop (end + 1) text)
+AreItemsWritten old new depth end next text =
+    with_list_end new depth (drop next text) ≡ with_list old depth (drop (end + 1) text)

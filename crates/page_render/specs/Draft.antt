@@ -39,4 +39,5 @@ with_text d depth text = then_reads d (reads d depth text)
 
 -- of the text from one place to the end, what stands before the next place was written
 abbrev pub IsWritten : (old new : Draft) → (depth at next to : ℕ) → Bytes → Type 0
-IsWritten old new depth at next to text = with_text new depth (between next to text) ≡ with_text old depth (between at to text)
+IsWritten old new depth at next to text =
+    with_text new depth (between next to text) ≡ with_text old depth (between at to text)

@@ -12,7 +12,9 @@ use Rattle.page_render.specs.declared.templates.Wanted.TheVariants.{Whole, After
 
 -- each title is below the next
 abbrev pub IsRising : Pairs → Type 0
-IsRising pairs = (i : ℕ) (d : Bytes × Bytes) → i + 1 < length pairs → bytes_cmp (get_or pairs i d).0 (get_or pairs (i + 1) d).0 ≡ Less
+IsRising pairs =
+    (i : ℕ) (d : Bytes × Bytes) → i + 1 < length pairs
+    → bytes_cmp (get_or pairs i d).0 (get_or pairs (i + 1) d).0 ≡ Less
 
 -- each title has the same text in both
 abbrev pub HasSameTexts : (one other : Pairs) → Type 0

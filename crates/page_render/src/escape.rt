@@ -4,7 +4,8 @@ ghost use Rattle.wiki_model.specs.Html.{escaped, escaped_byte};
 
 use std::alloc::AllocError;
 
-/// Writes a byte of a text; one that a tag or an entity could begin with, or that could end an attribute, as its entity.
+/// Writes a byte of a text; one that a tag or an entity could begin with, or that could end an attribute, as its
+/// entity.
 pub fn write_byte(out: &mut Vec<u8>, byte: u8) -> Result<(), AllocError>
     ensures { IfOk result (λ _. out.new.items ≡ out.old.items ++ escaped_byte byte) }
 {

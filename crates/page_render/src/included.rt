@@ -4,8 +4,8 @@ ghost use Rattle.wiki_model.specs.Limits.{included_max};
 
 use std::marker::Model;
 
-/// The bytes of templates that a page may include: 256 KiB, four times the longest text, so that no page grows without bound
-/// however its templates name each other.
+/// The bytes of templates that a page may include: 256 KiB, four times the longest text, so that no page grows without
+/// bound however its templates name each other.
 pub const INCLUDED_MAX: usize = 262_144;
 
 /// How many bytes of templates a page has included: at most [`INCLUDED_MAX`]. Contracts see the number.

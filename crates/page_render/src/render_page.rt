@@ -41,12 +41,12 @@ impl Page {
     }
 }
 
-/// The page of a title, with this text, these template pages and this notice, in markup 1 or 2. Of template pages with one title the
-/// first counts.
+/// The page of a title, with this text, these template pages and this notice, in markup 1 or 2. Of template pages with
+/// one title the first counts.
 ///
-/// Its time grows with the bytes of the text and of the templates that it includes, and with the number of template pages: by one look
-/// at each if their titles rise, and else as much as a sort of the titles takes. No tree and no list of marks is made, so besides the
-/// page itself it takes no memory that grows with the text.
+/// Its time grows with the bytes of the text and of the templates that it includes, and with the number of template
+/// pages: by one look at each if their titles rise, and else as much as a sort of the titles takes. No tree and no list
+/// of marks is made, so besides the page itself it takes no memory that grows with the text.
 pub fn render(
     alloc: Global,
     title: &Title,

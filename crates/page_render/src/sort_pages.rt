@@ -8,7 +8,8 @@ use std::alloc::{AllocError, Global};
 use std::collections::BTreeMap;
 use wiki_titles::{Text, Title};
 
-/// The pages in title order; of pages with one title the first. It takes as much as a sort of the titles; texts are shared.
+/// The pages in title order; of pages with one title the first. It takes as much as a sort of the titles; texts are
+/// shared.
 pub fn sorted(alloc: Global, pages: &[(Title, Text)]) -> Result<Vec<(Title, Text)>, AllocError>
     ensures rising { IfOk result (λ list. IsRising list.items) }
     ensures same { IfOk result (λ list. HasSameTexts list.items pages.now) }

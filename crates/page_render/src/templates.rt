@@ -39,8 +39,8 @@ impl<'a> Templates<'a> {
         Templates { pages }
     }
 
-    /// The text of the template page that a text between braces names. The time grows with the logarithm of the number of
-    /// pages; a name of ASCII letters and digits takes no memory.
+    /// The text of the template page that a text between braces names. The time grows with the logarithm of the number
+    /// of pages; a name of ASCII letters and digits takes no memory.
     pub fn find(&self, alloc: Global, name: &str) -> Result<Option<&'a Text>, AllocError>
         requires { length name.now ≤ brackets_max }
         ensures { IfOk result (λ found. option_copied found ≡ text_named self.now name.now) }

@@ -106,7 +106,8 @@ fn write_list(
     Ok(next)
 }
 
-/// Writes the items of the list whose first line ends at the place, but for the first item. Answers where the next line begins.
+/// Writes the items of the list whose first line ends at the place, but for the first item. Answers where the next line
+/// begins.
 #[tactic(auto, using(crate::proofs::Frames::list_to_blank, crate::proofs::Frames::list_last))]
 fn write_items(
     writer: &mut Writer<'_>,

@@ -21,8 +21,8 @@ use std::alloc::{AllocError, Global};
 use std::marker::Model;
 use wiki_titles::{Text, Title};
 
-/// A page on its way: what is written of it, the template pages that it may include, and how many of their bytes it has. Contracts
-/// see a `Draft`.
+/// A page on its way: what is written of it, the template pages that it may include, and how many of their bytes it
+/// has. Contracts see a `Draft`.
 #[derive(Drop)]
 pub struct Writer<'p> {
     alloc: Global,

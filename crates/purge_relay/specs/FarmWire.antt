@@ -57,8 +57,11 @@ with_given None taken = taken
 with_given (Some m) taken = taken ++ m ∷ []
 
 -- what a take does to the messages taken and to the plan; if memory was refused, the message stays ready
-abbrev pub TakesFrom : (taken new_taken : List Message) (plan new_plan : Option (List Deal)) → Next → Result (Option Message) WireFault → Type 0
-TakesFrom taken new_taken plan new_plan (Gives m) (Ok (Some given)) = (given ≡ m) × (new_taken ≡ taken ++ m ∷ []) × (new_plan ≡ without_deal plan)
+abbrev pub TakesFrom :
+    (taken new_taken : List Message) (plan new_plan : Option (List Deal)) → Next → Result (Option Message) WireFault
+    → Type 0
+TakesFrom taken new_taken plan new_plan (Gives m) (Ok (Some given)) =
+    (given ≡ m) × (new_taken ≡ taken ++ m ∷ []) × (new_plan ≡ without_deal plan)
 TakesFrom taken new_taken plan new_plan (Gives m) (Err Memory) = (new_taken ≡ taken) × (new_plan ≡ plan)
 TakesFrom taken new_taken plan new_plan GivesNone (Ok None) = (new_taken ≡ taken) × (new_plan ≡ without_deal plan)
 TakesFrom taken new_taken plan new_plan Fails (Err Failed) = (new_taken ≡ taken) × (new_plan ≡ without_deal plan)

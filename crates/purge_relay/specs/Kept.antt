@@ -36,7 +36,8 @@ with_waiting (Some s) m waiting = waiting
 abbrev pub Keeps : Option ScriptState → (waiting sent taken : List Message) → Type 0
 Keeps None waiting sent taken = (length taken ≤ length sent) × (waiting ≡ drop (length taken) sent)
 Keeps (Some s) waiting sent taken =
-    (number : ℕ) → list_any (names number) s.deals ≡ true → find (has_number number) s.kept ≡ find (has_number number) sent
+    (number : ℕ) → list_any (names number) s.deals ≡ true
+    → find (has_number number) s.kept ≡ find (has_number number) sent
 
 -- a deal of the script is done, or stays if memory was refused
 abbrev pub Answers : (deals new_deals : List Deal) → Next → Result (Option Message) WireFault → Type 0
@@ -51,7 +52,8 @@ pub record DealsOut (old new : ScriptState) (result : Result (Option Message) Wi
   pub kept : new.kept ≡ old.kept
 
 -- a take gives the first that waits, or does the next deal
-abbrev pub Deals : (old new : Option ScriptState) (waiting new_waiting : List Message) → Result (Option Message) WireFault → Type 0
+abbrev pub Deals :
+    (old new : Option ScriptState) (waiting new_waiting : List Message) → Result (Option Message) WireFault → Type 0
 Deals None None waiting new_waiting result = (result ≡ Ok (slice_get waiting 0)) × (new_waiting ≡ drop 1 waiting)
 Deals (Some old) (Some new) waiting new_waiting result = (new_waiting ≡ waiting) × DealsOut old new result
 Deals old new waiting new_waiting result = ⊥

@@ -1,4 +1,5 @@
--- What a ledger holds: the messages in the order of their numbers from 1, with what became of them, and the room that is reserved.
+-- What a ledger holds: the messages in the order of their numbers from 1, with what became of them, and the room that
+-- is reserved.
 use Rattle.std.specs.Prelude.{ℕ, zero, suc, ◌≡◌, ◌+◌, ◌-◌, ◌<◌, ◌≤◌, true, false, not, if◌then◌else◌, ◌&&◌, nat_lt, nat_le, List, [], ◌∷◌, ◌++◌, length, filter, Option, Some, None, option_map, slice_get, slice_set, IfSome}
 use Rattle.purge_relay.specs.declared.message.Body.{Body}
 use Rattle.purge_relay.specs.declared.message.Body.TheVariants.{Purge, Position}
@@ -28,7 +29,8 @@ with_row rows (suc n) (Some row) = slice_set rows n row
 
 -- the message of this number is changed so, if there is one
 abbrev pub changed_at : (LedgerRow → LedgerRow) → (number : ℕ) → LedgerState → LedgerState
-changed_at change number state = record state { rows = with_row state.rows number (option_map change (row_at state.rows number)) }
+changed_at change number state =
+    record state { rows = with_row state.rows number (option_map change (row_at state.rows number)) }
 
 -- a new message takes one of the places that were reserved
 abbrev pub with_message : Body → LedgerState → LedgerState

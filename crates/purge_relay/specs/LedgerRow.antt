@@ -9,7 +9,13 @@ use Rattle.purge_relay.specs.declared.ledger_row.Receipt.{Receipt}
 use Rattle.purge_relay.specs.declared.ledger_row.LedgerRow.{LedgerRow}
 
 abbrev pub new_row : (number : ℕ) → Body → LedgerRow
-new_row number body = record { message = record { number = number; body = body }; dropped = false; sent = false; home = None; west = None }
+new_row number body = record {
+  message = record { number = number; body = body };
+  dropped = false;
+  sent = false;
+  home = None;
+  west = None;
+}
 
 abbrev pub dropped : LedgerRow → LedgerRow
 dropped row = record row { dropped = true }

@@ -3,7 +3,7 @@ use Rattle.std.proofs.Common.{◌≡◌, ℕ, Some, Result, Ok, Err, ap, subst}
 use Rattle.std.specs.Prelude.{slice_get, OnOk, OnErr}
 use Rattle.replica_apply.specs.Replica.{ReplicaState}
 use Rattle.chronology_store.specs.ChronologyStore.{Positions}
-use Rattle.region_state.specs.RegionState.{RegionParts, OnPositions, OnReplica, with_positions, with_replica}
+use Rattle.region_state.specs.RegionState.{RegionParts, OnPositions, OnReplica, SweepsDoubled, SweepsRegion, with_positions, with_replica, with_swept}
 
 pub changed_positions : {S : Type 0} (inside old : RegionParts S) (after : Positions) (Changes : Positions → Positions → Type 0)
     → inside ≡ old → Changes inside.positions after → OnPositions old (with_positions after inside) Changes
@@ -23,6 +23,15 @@ pub positions_if_err : {S T E : Type 0} (result : Result T E) (inside old : Regi
     → inside ≡ old → OnErr result (Changes inside.positions after) → OnErr result (OnPositions old (with_positions after inside) Changes)
 positions_if_err (Ok x) inside old after Changes is changes = tt
 positions_if_err (Err e) inside old after Changes is changes = changed_positions inside old after Changes is changes
+
+pub swept_region : {S : Type 0} (inside old : RegionParts S) (now : ℕ) (after : Positions) (rows : ℕ)
+    → inside ≡ old → SweepsDoubled now inside.swept inside.positions rows after → SweepsRegion now old (with_swept after rows inside)
+swept_region {S} inside old now after rows is sweeps = record {
+  after = after;
+  rows = rows;
+  rest = ap (with_swept after rows) is;
+  sweeps = subst (λ (p : RegionParts S). SweepsDoubled now p.swept p.positions rows after) is sweeps;
+}
 
 pub changed_replica : {S : Type 0} (inside old : RegionParts S) (i : ℕ) (before after : ReplicaState) (Changes : ReplicaState → ReplicaState → Type 0)
     → inside ≡ old → slice_get inside.replicas i ≡ Some before → Changes before after → OnReplica i old (with_replica i after inside) Changes

@@ -10,15 +10,8 @@ use Rattle.chronology_store.specs.declared.position_row.PositionRow.{PositionRow
 use Rattle.chronology_store.specs.PositionRow.{later, held_by, told_one, told_by}
 use Rattle.chronology_store.specs.ChronologyStore.{Positions, TellsAll, row_of}
 use Rattle.chronology_store.specs.AsModel.{held_of, rows_in}
+use Rattle.chronology_store.proofs.ModelRows.{later_is}
 use Rattle.region_state.specs.YoungCommits.{commit_of, commits_of}
-
-later_is : (o : Option HeldPosition) (told : HeldPosition) → held_of (later o told) ≡ later_row (option_map held_of o) (held_of told)
-later_is None told = refl
-later_is (Some held) told = by (nat_lt held.index told.index)
-  where
-    by : (b : Bool) → held_of (cond b told held) ≡ cond b (held_of told) (held_of held)
-    by true = refl
-    by false = refl
 
 -- one commit
 told_once : (n : Numbered) (client : Client) (row : PositionRow) (o : Option Rattle.wiki_model.specs.Positions.Held) → o ≡ option_map held_of row.held

@@ -1,7 +1,7 @@
 -- What a region begins with.
 use Rattle.std.specs.Prelude.{ℕ, ◌≡◌, List, [], map, Some, slice_get}
 use Rattle.replica_apply.specs.Replica.{ReplicaState, IsPrefix}
-use Rattle.region_state.specs.RegionState.{RegionParts}
+use Rattle.region_state.specs.RegionState.{RegionParts, swept_rows_least}
 
 -- replicas that have applied nothing, one for each weight
 pub record AreNew (weights : List ℕ) (replicas : List ReplicaState) : Type 0 where
@@ -13,4 +13,5 @@ pub record IsNew {S : Type 0} (weights : List ℕ) (epoch read_lag : ℕ) (cache
   pub markup : parts.markup ≡ 1
   pub replicas : AreNew weights parts.replicas
   pub positions : parts.positions ≡ []
+  pub swept : parts.swept ≡ swept_rows_least
   pub cache_is : parts.cache ≡ Some cache

@@ -1,5 +1,5 @@
 -- The parts of a region, what holds of them at every moment, and how a call changes one of them.
-use Rattle.std.specs.Prelude.{ℕ, ◌≡◌, ◌⊎◌, ◌≤◌, ◌<◌, false, List, length, Option, Some, IfSome, slice_get, slice_set}
+use Rattle.std.specs.Prelude.{ℕ, ◌≡◌, ◌⊎◌, ◌≤◌, ◌<◌, ◌/◌, max, false, List, length, Option, Some, IfSome, slice_get, slice_set}
 use Rattle.wiki_model.specs.Bytes.{Bytes}
 use Rattle.wiki_model.specs.Limits.{replicas_max}
 use Rattle.wiki_model.specs.Cache.{CacheMap, IsCache}
@@ -18,6 +18,8 @@ pub record RegionParts (S : Type 0) : Type 0 where
   pub markup : ℕ
   pub replicas : List ReplicaState
   pub positions : Positions
+  -- how many rows the positions had after the last sweep, or the least number that a sweep is for
+  pub swept : ℕ
   pub cache : Option S
 
 -- What always holds of a region.
@@ -69,6 +71,23 @@ pub record OnReplica {S : Type 0} (i : ℕ) (old new : RegionParts S)
   pub rest : new ≡ with_replica i after old
   pub changes : Changes before after
 
--- the positions may be swept
-abbrev pub MaySweep : (now : ℕ) → (old new : Positions) → Type 0
-MaySweep now old new = (new ≡ old) ⊎ Sweeps now old new
+-- fewer rows of positions than these are not swept
+abbrev pub swept_rows_least : ℕ
+swept_rows_least = 64
+
+-- The positions stay while they have less than twice the rows that the last sweep left; else they are swept, and what
+-- is left counts for the next time.
+abbrev pub SweepsDoubled : (now : ℕ) → (swept : ℕ) (old : Positions) → (rows : ℕ) (new : Positions) → Type 0
+SweepsDoubled now swept old rows new =
+    ((length old / 2 < swept) × (new ≡ old) × (rows ≡ swept))
+    ⊎ ((swept ≤ length old / 2) × Sweeps now old new × (rows ≡ max (length new) swept_rows_least))
+
+abbrev pub with_swept : {S : Type 0} → Positions → (rows : ℕ) → RegionParts S → RegionParts S
+with_swept positions rows parts = record parts { positions = positions; swept = rows }
+
+-- the region's positions are swept if they have doubled, and nothing else changes
+pub record SweepsRegion {S : Type 0} (now : ℕ) (old new : RegionParts S) : Type 0 where
+  pub after : Positions
+  pub rows : ℕ
+  pub rest : new ≡ with_swept after rows old
+  pub sweeps : SweepsDoubled now old.swept old.positions rows after

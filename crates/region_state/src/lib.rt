@@ -47,6 +47,6 @@ pub use open_view::OpenView;
 pub use page_render::Page;
 pub use plan::{FarmPlan, RegionPlan};
 pub use region_state::RegionState;
-pub use snap_view::Snapped;
+pub use snap_view::{SnapTerms, Snapped};
 pub use wait_view::Wait;
 pub use wiki_model::{Behind, Origin, PutNote};

@@ -7,7 +7,7 @@ use crate::ask::ViewAsk;
 use crate::new_region::new_replicas;
 use crate::plan::RegionPlan;
 use crate::replica_rows::rows_at;
-use crate::snap_view::Snapped;
+use crate::snap_view::{SnapTerms, Snapped};
 use crate::store_view::{PageRules, store_into};
 use crate::sweep_positions::{SWEPT_ROWS_LEAST, sweep_doubled};
 use crate::take_purge::take_purge;
@@ -63,6 +63,7 @@ impl<S: RegionStore<Page>> Model for RegionState<S> {
       markup = r.markup;
       replicas = r.replicas.items;
       positions = r.positions;
+      swept = r.swept_rows;
       cache = r.cache;
     } };
 
@@ -72,6 +73,7 @@ impl<S: RegionStore<Page>> Model for RegionState<S> {
           markup = r.markup;
           replicas = r.replicas.items;
           positions = r.positions;
+          swept = r.swept_rows;
           cache = r.cache;
         }) };
 }
@@ -95,7 +97,7 @@ impl<S: RegionStore<Page>> RegionState<S> {
     ghost use Rattle.edit_core.specs.BeginEdit.{Begins};
     ghost use Rattle.edit_core.specs.CommitEdit.{CommitsWithOutcome};
     ghost use Rattle.region_state.specs.AsModel.{answer_of};
-    ghost use Rattle.region_state.specs.RegionState.{IsBefore, MaySweep, OnCache, OnPositions, OnReplica, with_cache};
+    ghost use Rattle.region_state.specs.RegionState.{IsBefore, OnCache, OnPositions, OnReplica, SweepsRegion, with_cache};
     ghost use Rattle.region_state.specs.NewRegion.{IsNew};
     ghost use Rattle.region_state.specs.YoungCommits.{AreSmall, commits_of};
     ghost use Rattle.region_state.specs.ApplyEntries.{AppliesTo, TakesEntry};
@@ -206,21 +208,18 @@ impl<S: RegionStore<Page>> RegionState<S> {
     }
 
     /// Draws a replica by the word for a view that may not miss the first `need` entries, and takes its snapshot of the
-    /// title; `pending` says whether an edit of the title is begun. Some replica has applied so many entries, else the
-    /// answer is as if out of memory.
+    /// title. Some replica has applied so many entries, else the answer is as if out of memory.
     pub fn snap(
         &self,
         alloc: Global,
         title: &Title,
-        need: u64,
-        word: u64,
-        pending: bool,
+        terms: SnapTerms,
         now: Moment,
     ) -> Result<Snapped, Memory>
-        ensures { IfOk result (λ s. SnapsIn self.now title.now need word pending now s) }
+        ensures { IfOk result (λ s. SnapsIn self.now title.now terms.need terms.word terms.pending now s) }
     {
         let rows = rows_at(alloc, &self.weights, &self.replicas, now)?;
-        let (replica, lagged) = match choose(&rows, need, word) {
+        let (replica, lagged) = match choose(&rows, terms.need, terms.word) {
             Choice::At(replica) => (replica, false),
             Choice::Lagged(replica) => (replica, true),
             Choice::Behind { .. } => return Err(Memory),
@@ -233,7 +232,7 @@ impl<S: RegionStore<Page>> RegionState<S> {
             snapshot,
             replica,
             lagged,
-            pending,
+            pending: terms.pending,
         })
     }
 
@@ -289,7 +288,7 @@ impl<S: RegionStore<Page>> RegionState<S> {
     /// Forgets the positions that have expired, if the clients with a row have doubled since the last time. It is
     /// linear in the rows when it does, so a row costs constant time in the long run. It takes no memory.
     pub fn sweep(&mut self, now: Moment)
-        ensures { OnPositions self.old self.new (MaySweep now) }
+        ensures { SweepsRegion now self.old self.new }
     {
         sweep_doubled(&mut self.positions, &mut self.swept_rows, now);
     }

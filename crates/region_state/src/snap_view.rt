@@ -1,6 +1,17 @@
 // What a view takes of a replica.
 use replica_apply::Snapshot;
 
+/// What a snapshot is taken by, beside the title and the moment.
+#[derive(Clone, Copy, Debug, PartialEq, Eq)]
+pub struct SnapTerms {
+    /// How many entries the view may not miss.
+    pub need: u64,
+    /// The word by which a replica is drawn.
+    pub word: u64,
+    /// Whether an edit of the title is begun.
+    pub pending: bool,
+}
+
 /// A snapshot with the choice of its replica.
 #[derive(Debug, Drop)]
 pub struct Snapped {

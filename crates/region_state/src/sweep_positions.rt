@@ -1,5 +1,5 @@
 // When a region forgets the positions that have expired.
-ghost use Rattle.region_state.specs.RegionState.{MaySweep};
+ghost use Rattle.region_state.specs.RegionState.{SweepsDoubled};
 
 use chronology_store::ChronologyStore;
 use farm_base::Moment;
@@ -9,7 +9,7 @@ pub(crate) const SWEPT_ROWS_LEAST: usize = 64;
 
 /// Sweeps if the rows are twice as many as they were after the last sweep.
 pub(crate) fn sweep_doubled(positions: &mut ChronologyStore, swept_rows: &mut usize, now: Moment)
-    ensures { MaySweep now positions.old positions.new }
+    ensures { SweepsDoubled now swept_rows.old positions.old swept_rows.new positions.new }
 {
     let rows = positions.rows();
     if rows / 2 < *swept_rows {

@@ -14,4 +14,8 @@ AreSmall writes = (writes.count < 2 ^ 63) × (writes.last < 2 ^ 63) × (writes.s
 
 -- what a client has committed: how often, and the number and stamp of its last commit
 abbrev pub writes_of : List Entry → Client → Writes
-writes_of history client = record { count = count history client; last = own history client; stamp = stamp_at history (own history client) }
+writes_of history client = record {
+  count = count history client;
+  last = own history client;
+  stamp = stamp_at history (own history client);
+}

@@ -48,7 +48,8 @@ pub record AreSameWrites (old new : ClientIndex) : Type 0 where
 -- one commit more
 
 abbrev pub AddsNumber : (old new : TitleIndex) → Title → (number : ℕ) → Type 0
-AddsNumber old new title number = (t : Title) → numbers_on new t ≡ (if bytes_eq title t then numbers_on old t ++ number ∷ [] else numbers_on old t)
+AddsNumber old new title number =
+    (t : Title) → numbers_on new t ≡ (if bytes_eq title t then numbers_on old t ++ number ∷ [] else numbers_on old t)
 
 -- the client's next commit
 abbrev pub one_more : Writes → (number stamp : ℕ) → Writes
@@ -61,15 +62,24 @@ AddsToken old new token number =
 
 -- one title loses its last number
 abbrev pub DropsNumber : (old new : TitleIndex) → Title → Type 0
-DropsNumber old new title = (t : Title) → numbers_on new t ≡ (if bytes_eq title t then take (length (numbers_on old t) - 1) (numbers_on old t) else numbers_on old t)
+DropsNumber old new title =
+    (t : Title)
+    → numbers_on new t
+    ≡ (if bytes_eq title t then take (length (numbers_on old t) - 1) (numbers_on old t) else numbers_on old t)
 
 pub record AddsWrite (old new : ClientIndex) (client : Client) (token : Token) (number stamp : ℕ) : Type 0 where
-  pub writes : (c : Client) → writes_in new c ≡ (if bytes_eq client c then one_more (writes_in old c) number stamp else writes_in old c)
-  pub tokens : (c : Client) (t : Token) → number_in new c t ≡ (if bytes_eq client c && bytes_eq token t then Some number else number_in old c t)
+  pub writes :
+      (c : Client)
+      → writes_in new c ≡ (if bytes_eq client c then one_more (writes_in old c) number stamp else writes_in old c)
+  pub tokens :
+      (c : Client) (t : Token)
+      → number_in new c t ≡ (if bytes_eq client c && bytes_eq token t then Some number else number_in old c t)
 
 -- The indexes hold of each key what the list has.
 pub record AreIndexed (history : List Entry) (titles : TitleIndex) (clients : ClientIndex) : Type 0 where
   pub is_history : IsHistory history
   pub numbers : (title : Title) → numbers_on titles title ≡ numbers_of (commits_on history title)
   pub writes : (client : Client) → writes_in clients client ≡ writes_of history client
-  pub tokens : (client : Client) (token : Token) → number_in clients client token ≡ number_of (commit_with_token history client token)
+  pub tokens :
+      (client : Client) (token : Token)
+      → number_in clients client token ≡ number_of (commit_with_token history client token)

@@ -16,17 +16,21 @@ module _ {E : Type 0} where
   IsLength content result = IfSome content (λ history. IfOk result (λ n. n ≡ length history))
 
   abbrev pub IsEntryAt : Content → (n : ℕ) → Result (Option Entry) E → Type 0
-  IsEntryAt content n result = IfSome content (λ history. IfOk result (λ found. option_map entry_of found ≡ entry_at history n))
+  IsEntryAt content n result =
+      IfSome content (λ history. IfOk result (λ found. option_map entry_of found ≡ entry_at history n))
 
   -- the last commit on the title in this prefix
   abbrev pub IsLatest : Content → Title → (upto : ℕ) → Result (Option ℕ) E → Type 0
-  IsLatest content title upto result = IfSome content (λ history. IfOk result (λ found. found ≡ number_of (page history upto title)))
+  IsLatest content title upto result =
+      IfSome content (λ history. IfOk result (λ found. found ≡ number_of (page history upto title)))
 
   abbrev pub IsByToken : Content → Client → Token → Result (Option ℕ) E → Type 0
-  IsByToken content client token result = IfSome content (λ history. IfOk result (λ found. found ≡ number_of (commit_with_token history client token)))
+  IsByToken content client token result =
+      IfSome content (λ history. IfOk result (λ found. found ≡ number_of (commit_with_token history client token)))
 
   abbrev pub AreWritesOf : Content → Client → Result Writes E → Type 0
-  AreWritesOf content client result = IfSome content (λ history. IfOk result (λ writes. writes ≡ writes_of history client))
+  AreWritesOf content client result =
+      IfSome content (λ history. IfOk result (λ writes. writes ≡ writes_of history client))
 
   -- the number that an appended entry gets
   abbrev pub IsNextNumber : Content → Result ℕ E → Type 0

@@ -19,6 +19,7 @@ pub struct FailingKeeper {
 }
 
 impl FailingKeeper {
+    /// A keeper whose calls of these numbers fail.
     pub fn new(alloc: Global, starts: Vec<u64>, lens: Vec<u64>) -> Self {
         FailingKeeper {
             inner: MemKeeper::new(alloc),

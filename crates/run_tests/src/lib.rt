@@ -1,4 +1,4 @@
-//! Tests of the top call: whole scripts with their reports byte for byte, what is refused, and faults in turn.
+//! Tests of the top call: scripts of edits and their first views, what is refused, and faults in turn.
 //!
 //! Every test runs the program's own `run` over forms in memory and compares how it ended and all that it wrote. No
 //! expected report is our own output: each was worked by hand, and a second reading in Python (checks/reference)
@@ -7,9 +7,6 @@
 //! - `edits`: edits and their answers, and the first views of their pages;
 //! - `pages`: what a text looks like as a page;
 //! - `prefixes`: which prefix a page is of, and which replica answers;
-//! - `sessions`: cookies, positions and waiting;
-//! - `cached_pages`: what a cache keeps and shows, at the edges of each rule;
-//! - `interleavings`: purges that are lost, late or repeated, clocks that disagree: the scripts of examples/;
 //! - `refusals`: scripts outside the grammar;
 //! - `words`: words that are no command, scripts that are made, and the number of each status;
 //! - `streams`: reads and writes that fail;
@@ -17,17 +14,14 @@
 //! - `setting`: what they share: one run, its status, its text and its keeper;
 //! - `failing_keeper`: a keeper of which other calls than appends fail.
 //!
-//! The error of each test is `std::test::Fail`, so that `?` takes every refusal.
+//! Scripts in which caches, positions and purges decide what a session is shown are in `session_tests`. The error of
+//! each test is `std::test::Fail`, so that `?` takes every refusal.
 #![tactic(auto)]
 
-#[cfg(test)]
-mod cached_pages;
 #[cfg(test)]
 mod edits;
 #[cfg(test)]
 mod failing_keeper;
-#[cfg(test)]
-mod interleavings;
 #[cfg(test)]
 mod keepers;
 #[cfg(test)]
@@ -36,8 +30,6 @@ mod pages;
 mod prefixes;
 #[cfg(test)]
 mod refusals;
-#[cfg(test)]
-mod sessions;
 #[cfg(test)]
 mod setting;
 #[cfg(test)]

@@ -48,14 +48,22 @@ at_text home west = codes "at " ++ (decimal home ++ (codes " " ++ (decimal west 
 
 abbrev pub edit_text : (number client : ℕ) → (title : Bytes) → (base : ℕ) → Bytes
 edit_text number client title base =
-    codes "edit " ++ (decimal client ++ (codes " t" ++ (decimal number ++ (codes " " ++ (title ++ (codes " " ++ (decimal base ++ (codes " v" ++ (decimal number ++ codes "\n")))))))))
+    codes "edit "
+    ++ (decimal client
+    ++ (codes " t"
+    ++ (decimal number
+    ++ (codes " " ++ (title ++ (codes " " ++ (decimal base ++ (codes " v" ++ (decimal number ++ codes "\n")))))))))
 
 abbrev pub apply_text : (region : Bytes) → (replica : ℕ) → Bytes
 apply_text region replica = codes "apply " ++ (region ++ (codes " " ++ (decimal replica ++ codes " 50\n")))
 
 abbrev pub view_text : (region : Bytes) → (client : ℕ) → (cookie : Bytes) → (word : ℕ) → (title : Bytes) → Bytes
 view_text region client cookie word title =
-    codes "view " ++ (region ++ (codes " " ++ (decimal client ++ (codes " " ++ (cookie ++ (codes " " ++ (decimal word ++ (codes " " ++ (title ++ codes "\n")))))))))
+    codes "view "
+    ++ (region
+    ++ (codes " "
+    ++ (decimal client
+    ++ (codes " " ++ (cookie ++ (codes " " ++ (decimal word ++ (codes " " ++ (title ++ codes "\n")))))))))
 
 abbrev pub carry_text : (number : ℕ) → Bytes
 carry_text number = codes "carry " ++ (decimal number ++ codes "\n")
@@ -72,7 +80,9 @@ abbrev pub carried : Stirring → Draws → Bytes
 carried s d = if s.messages == 0 then codes "beat\n" else carry_text (1 + next_seed d.seed / 2 ^ 33 % s.messages)
 
 abbrev pub position : Stirring → Draws → Bytes
-position s d = if slice_index s.wrote d.client == 0 then codes "-" else position_text (slice_index s.wrote d.client) ((s.home + d.home) / 1_000)
+position s d =
+    if slice_index s.wrote d.client == 0 then codes "-"
+    else position_text (slice_index s.wrote d.client) ((s.home + d.home) / 1_000)
 
 abbrev pub step_text : (number : ℕ) → Stirring → Draws → Bytes
 step_text number s d =
@@ -97,7 +107,8 @@ abbrev pub after_by : Stirring → Draws → Stirred
 after_by s d = record {
   seed = last_seed s d;
   home = s.home + d.home;
-  revisions = if nat_lt d.kind 2 then slice_set s.revisions d.title (slice_index s.revisions d.title + 1) else s.revisions;
+  revisions =
+      if nat_lt d.kind 2 then slice_set s.revisions d.title (slice_index s.revisions d.title + 1) else s.revisions;
   wrote = if nat_lt d.kind 2 then slice_set s.wrote d.client (slice_index s.wrote d.client + 1) else s.wrote;
   messages = if nat_lt d.kind 2 then s.messages + 2 else s.messages;
 }

@@ -38,7 +38,8 @@ IsMissed (Some (Miss why)) = Unit {0}
 IsMissed _ = ⊥
 
 -- the run goes on by the turns of a line, of which this is shown
-pub record GoesOnByLine {K S : Type 0} (content : K → Option (List Entry)) (faults : K → ℕ) (cache_of : S → CacheMap Bytes) (old new : FarmParts K S)
+pub record GoesOnByLine {K S : Type 0} (content : K → Option (List Entry)) (faults : K → ℕ)
+    (cache_of : S → CacheMap Bytes) (old new : FarmParts K S)
     (at : Readings) (line : Line) (said : Option Answer) (start : World) (turns : List Turn) : Type 0 where
   -- the first one first
   pub made : List Turn
@@ -48,7 +49,8 @@ pub record GoesOnByLine {K S : Type 0} (content : K → Option (List Entry)) (fa
   pub shows : answers_of line made ≡ shown_once said
 
 -- What making a line does.
-pub record MakesLine {K S : Type 0} (content : K → Option (List Entry)) (faults : K → ℕ) (cache_of : S → CacheMap Bytes) (old new : FarmParts K S)
+pub record MakesLine {K S : Type 0} (content : K → Option (List Entry)) (faults : K → ℕ) (cache_of : S → CacheMap Bytes)
+    (old new : FarmParts K S)
     (at : Readings) (line : Line) (said : Option Answer) : Type 0 where
   -- each run for which the farm stood goes on by the line
   pub runs : (start : World) (turns : List Turn) (v : World) → Stands content faults cache_of old start turns v

@@ -28,7 +28,8 @@ pub record IsScriptPlan (plan : FarmPlan) (lines : List Line) : Type 0 where
   pub fits : (together : Together) → IsPlanOf (script_setting together lines) plan
 
 -- an empty cache of the region, for the plan's bounds
-pub record IsScriptCache {S : Type 0} (cache_of : S → CacheMap Bytes) (together : Together) (r : Region) (plan : FarmPlan) (cache : S) : Type 0 where
+pub record IsScriptCache {S : Type 0} (cache_of : S → CacheMap Bytes) (together : Together) (r : Region)
+    (plan : FarmPlan) (cache : S) : Type 0 where
   pub empty : IsEmptyCache (cache_of cache)
   pub together_is : (a b : Title) → (cache_of cache).together a b ≡ together r a b
   pub held : (cache_of cache).hold_off ≡ hold_off (bounds_of plan.bounds)
@@ -38,8 +39,10 @@ abbrev pub script_start : Together → List Line → (faults : ℕ) → World
 script_start together lines faults = opening (script_setting together lines) [] faults no_readings
 
 -- The farm is ready for the lines, and stands for the run of no step, if the history is empty.
-pub record StartsScript {K S : Type 0} (content : K → Option (List Entry)) (faults : K → ℕ) (cache_of : S → CacheMap Bytes)
+pub record StartsScript {K S : Type 0} (content : K → Option (List Entry)) (faults : K → ℕ)
+    (cache_of : S → CacheMap Bytes)
     (together : Together) (lines : List Line) (before : K) (farm : FarmParts K S) : Type 0 where
   pub runnable : IsRunnable farm lines
   pub stands : content before ≡ Some []
-      → Stands content faults cache_of farm (script_start together lines (faults before)) [] (script_start together lines (faults farm.keeper))
+      → Stands content faults cache_of farm (script_start together lines (faults before)) []
+      (script_start together lines (faults farm.keeper))

@@ -58,14 +58,16 @@ NoneOpens id [] = Unit {0}
 NoneOpens id (line ∷ lines) = (opens line id ≡ false) × NoneOpens id lines
 
 -- the answers of a run of these lines from the farm as it was, and the farm's runs go on by the lines
-abbrev pub HasRun : {K S : Type 0} → (K → Option (List Entry)) → (K → ℕ) → (S → CacheMap Bytes) → (first now : FarmParts K S)
+abbrev pub HasRun :
+    {K S : Type 0} → (K → Option (List Entry)) → (K → ℕ) → (S → CacheMap Bytes) → (first now : FarmParts K S)
     → (done : List Line) → (text : Bytes) → List Answer → Type 0
 HasRun content faults cache_of first now done text answers =
     (start w : World) → Stands content faults cache_of first start [] w
     → RunSoFar content faults cache_of start now done text answers
 
 -- How far a script was run: these lines are done, and the rest is to come.
-pub record IsUnderWay {K S : Type 0} (content : K → Option (List Entry)) (faults : K → ℕ) (cache_of : S → CacheMap Bytes)
+pub record IsUnderWay {K S : Type 0} (content : K → Option (List Entry)) (faults : K → ℕ)
+    (cache_of : S → CacheMap Bytes)
     (first now : FarmParts K S) (at : Readings) (done : List Line) (text : Bytes) (answers : List Answer) : Type 0 where
   pub at_is : at ≡ readings_in no_readings done
   pub whole : IsWhole now
@@ -79,18 +81,22 @@ pub record IsUnderWay {K S : Type 0} (content : K → Option (List Entry)) (faul
   pub counts : faults first.keeper ≤ faults now.keeper
 
 -- how much of a text a sink has: all; a prefix, since a write failed; a prefix, since memory ran out
-abbrev pub IsReported : ReportState → (old new : Option Bytes) → (faults_before faults_now : ℕ) → (text : Bytes) → Type 0
+abbrev pub IsReported :
+    ReportState → (old new : Option Bytes) → (faults_before faults_now : ℕ) → (text : Bytes) → Type 0
 IsReported state.Whole old new before now text = Adds old new text × (before ≤ now)
 IsReported state.Failed old new before now text = AddsPrefix old new text × Rose before now
 IsReported state.Memory old new before now text = AddsPrefix old new text × (before ≤ now)
 
 -- a text is written after what is there, unless that is a prefix already: then nothing more is written
-abbrev pub Continues : (before after : ReportState) → (old new : Option Bytes) → (faults_before faults_now : ℕ) → (more : Bytes) → Type 0
+abbrev pub Continues :
+    (before after : ReportState) → (old new : Option Bytes) → (faults_before faults_now : ℕ) → (more : Bytes) → Type 0
 Continues state.Whole after old new before now more = IsReported after old new before now more
 Continues earlier after old new before now more = (after ≡ earlier) × (new ≡ old) × (now ≡ before)
 
 -- a line is told: its answer is counted and its lines continue the report; one without an answer has no part in it
-abbrev pub Tells : (before after : Told) → LinePlace → Option Answer → (old new : Option Bytes) → (faults_before faults_now : ℕ) → Type 0
+abbrev pub Tells :
+    (before after : Told) → LinePlace → Option Answer → (old new : Option Bytes) → (faults_before faults_now : ℕ)
+    → Type 0
 Tells told after place None old new before now = (after ≡ told) × (new ≡ old) × (now ≡ before)
 Tells told after place (Some answer) old new before now =
     (after.answers ≡ told.answers + 1)
@@ -98,7 +104,8 @@ Tells told after place (Some answer) old new before now =
 
 -- What was told of a run: its report, as far as the sink took it, and how many answers that has.
 pub record Reports {K S : Type 0} (content : K → Option (List Entry)) (faults : K → ℕ) (cache_of : S → CacheMap Bytes)
-    (first now : FarmParts K S) (done : List Line) (told : Told) (old new : Option Bytes) (before after : ℕ) : Type 0 where
+    (first now : FarmParts K S) (done : List Line) (told : Told) (old new : Option Bytes) (before after : ℕ) :
+    Type 0 where
   pub text : Bytes
   pub answers : List Answer
   pub run : HasRun content faults cache_of first now done text answers
@@ -128,7 +135,8 @@ pub record IsTelling {K S : Type 0} (content : K → Option (List Entry)) (fault
   pub reported : IsReported told.state old new before after text
 
 -- The same where the answers are counted.
-pub record IsCounting {K S : Type 0} (content : K → Option (List Entry)) (faults : K → ℕ) (cache_of : S → CacheMap Bytes)
+pub record IsCounting {K S : Type 0} (content : K → Option (List Entry)) (faults : K → ℕ)
+    (cache_of : S → CacheMap Bytes)
     (first now : FarmParts K S) (at : Readings) (all done rest : List ScriptLine) (summary : Summary) : Type 0 where
   pub text : Bytes
   pub answers : List Answer

@@ -27,7 +27,8 @@ abbrev pub answers_more : List Answer → Option Answer → List Answer
 answers_more answers None = answers
 answers_more answers (Some answer) = answers ++ answer ∷ []
 
-pub record RunSoFar {K S : Type 0} (content : K → Option (List Entry)) (faults : K → ℕ) (cache_of : S → CacheMap Bytes) (start : World)
+pub record RunSoFar {K S : Type 0} (content : K → Option (List Entry)) (faults : K → ℕ) (cache_of : S → CacheMap Bytes)
+    (start : World)
     (farm : FarmParts K S) (done : List Line) (text : Bytes) (answers : List Answer) : Type 0 where
   pub turns : List (List Turn)
   pub world : World

@@ -4,7 +4,8 @@ use Rattle.std.specs.Global.{Box}
 use Rattle.wiki_model.specs.declared.Put.{Put}
 use Rattle.wiki_model.specs.Titles.{Title}
 use Rattle.wan_value.specs.declared.Value.{Value}
-use Rattle.wan_cache.specs.MapCache.{hold_off_max}
+use Rattle.wiki_model.specs.Limits.{hold_off_max}
+use Rattle.slot_cache.specs.declared.slot_parts.SlotParts.{SlotParts}
 use Rattle.slot_cache.specs.declared.slot_row.SlotRow.{SlotRow}
 use Rattle.slot_cache.specs.Slots.{slot_of}
 use Rattle.slot_cache.specs.SlotRow.{Stores}
@@ -19,6 +20,18 @@ pub record SlotState (P : Type 0) : Type 0 where
   pub message_check : ℕ
   pub greatest : ℕ
   pub hold_off : ℕ
+
+-- what a cache holds, from its parts
+abbrev pub state_of : {P : Type 0} → SlotParts P → SlotState P
+state_of parts = record {
+  slots = parts.slots;
+  floors = parts.floors.items;
+  rows = parts.rows.items;
+  template_check = parts.template_check;
+  message_check = parts.message_check;
+  greatest = parts.greatest;
+  hold_off = parts.hold_off;
+}
 
 module _ {P : Type 0} where
   abbrev pub row_in : List (Box (SlotRow P)) → (slot : ℕ) → Option (SlotRow P)
@@ -49,7 +62,8 @@ module _ {P : Type 0} where
   AreEmpty rows = (slot : ℕ) (row : SlotRow P) → row_in rows slot ≡ Some row → (row.main ≡ None) × (row.interim ≡ None)
 
   -- One slot is as a put with this answer leaves it, and the others stay.
-  pub record StoresIn (old new : List (Box (SlotRow P))) (slot : ℕ) (key : Title) (value : Value P) (answer : Put) : Type 0 where
+  pub record StoresIn (old new : List (Box (SlotRow P))) (slot : ℕ) (key : Title) (value : Value P)
+      (answer : Put) : Type 0 where
     pub before : SlotRow P
     pub after : SlotRow P
     pub there : row_in old slot ≡ Some before

@@ -1,5 +1,5 @@
 -- What is kept for the key that has a slot, and what a put makes of that.
-use Rattle.std.specs.Prelude.{◌≡◌, Bool, if◌then◌else◌, Option, Some, None, bytes_eq}
+use Rattle.std.specs.Prelude.{ℕ, ◌≡◌, Bool, if◌then◌else◌, Option, Some, None, nat_lt, bytes_eq}
 use Rattle.wiki_model.specs.declared.Put.{Put}
 use Rattle.wiki_model.specs.declared.Put.TheVariants.{Main, Interim, Held, Busy, Memory}
 use Rattle.wiki_model.specs.Titles.{Title}
@@ -10,6 +10,11 @@ module _ {P : Type 0} where
   abbrev pub if_same : (same : Bool) → Option (Value P) → Option (Value P)
   if_same same None = None
   if_same same (Some value) = if same then Some value else None
+
+  -- the value, if it was not set before the floor
+  abbrev pub not_before : (floor : ℕ) → Option (Value P) → Option (Value P)
+  not_before floor None = None
+  not_before floor (Some value) = if nat_lt value.set_at floor then None else Some value
 
   -- the row's values, if it is this key's
   abbrev pub main_of : SlotRow P → Title → Option (Value P)

@@ -15,7 +15,8 @@
 //! later purge or touch lets it pass.
 //!
 //! `SlotCache` is a `RegionStore`, whose promises and rules are in `wan_cache`; how fresh a value is says `wan_value`.
-//! Each row of the cache lies in a block of its own, so that a cache can hand its slots on by moving one word a slot.
+//! Each row of the cache lies in a block of its own, so that a cache that is taken apart (`into_parts`) hands its slots
+//! on by moving one word a slot. Threads that share one cache are `slot_share`'s.
 //!
 //! Of 256 slots, `A` has the slot 168 and `B` the slot 202. If the hold-off is 11,000 milliseconds and `A` is purged at
 //! 2,000, a `look` for `A` at 12,999 answers `Look::Miss(Cause::Purged { floor: 13_000 })`, and one for `B` answers
@@ -25,7 +26,10 @@
 mod key_copy;
 mod slot_cache;
 mod slot_number;
+mod slot_parts;
 mod slot_row;
 
 pub use slot_cache::{SLOTS_MAX, SLOTS_MIN, SlotCache};
 pub use slot_number::slot_of;
+pub use slot_parts::SlotParts;
+pub use slot_row::SlotRow;

@@ -1,15 +1,16 @@
 // A region's cache of fixed slots.
 ghost use Rattle.std.specs.Prelude.{◌≡◌, ◌≢◌, ◌<◌, ◌≤◌, ◌+◌, ℕ, length, slice_index, slice_set, max, false, IfOk, replicate};
-ghost use Rattle.wiki_model.specs.Limits.{greatest_moment};
+ghost use Rattle.wiki_model.specs.Limits.{greatest_moment, hold_off_max, slots_min, slots_max};
 ghost use Rattle.wiki_model.specs.Cache.{IsEmptyCache, Puts, Purges, Touches};
 ghost use Rattle.wan_value.specs.AsModel.{value_of, ask_of};
 ghost use Rattle.wan_cache.specs.Rules.{IsFound, found_by, shown, placed};
 ghost use Rattle.slot_cache.specs.Slots.{same_slot};
 ghost use Rattle.slot_cache.specs.SlotRow.{main_for, interim_for};
-ghost use Rattle.slot_cache.specs.SlotCache.{row_in, AreEmpty, StoresIn, DropsIn, KeepsOthers, HoldsSlot, KeepsAll};
+ghost use Rattle.slot_cache.specs.SlotCache.{state_of, IsKept, row_in, AreEmpty, StoresIn, DropsIn, KeepsOthers, HoldsSlot, KeepsAll};
 ghost use Rattle.slot_cache.specs.AsModel.{map_of};
 
 use crate::slot_number::slot_of;
+use crate::slot_parts::SlotParts;
 use crate::slot_row::SlotRow;
 use farm_base::Memory;
 use std::alloc::Global;
@@ -74,10 +75,10 @@ impl<P: Drop> SlotCache<P> {
     /// An empty cache of this many slots, `SLOTS_MIN` to `SLOTS_MAX`, whose purges hold off for this many
     /// milliseconds, 1 to `HOLD_OFF_MAX`. All memory that the cache ever needs is taken here: about 400 bytes a slot.
     pub fn new(alloc: Global, slots: u32, hold_off: u64) -> Result<Self, Memory>
-        requires some { SLOTS_MIN ≤ slots }
-        requires few { slots ≤ SLOTS_MAX }
+        requires some { slots_min ≤ slots }
+        requires few { slots ≤ slots_max }
         requires holds { 0 < hold_off }
-        requires short { hold_off ≤ HOLD_OFF_MAX }
+        requires short { hold_off ≤ hold_off_max }
         ensures empty { IfOk result (λ c. IsEmptyCache (map_of c)) }
         ensures hold_off { IfOk result (λ c. (map_of c).hold_off ≡ hold_off) }
         ensures together { IfOk result (λ c. (map_of c).together ≡ same_slot slots) }
@@ -92,6 +93,38 @@ impl<P: Drop> SlotCache<P> {
             greatest: Moment(0),
             hold_off,
         })
+    }
+
+    /// Takes the cache apart. It takes no memory.
+    pub fn into_parts(self) -> SlotParts<P>
+        ensures state { state_of result ≡ self }
+        ensures kept { IsKept (state_of result) }
+    {
+        SlotParts {
+            slots: self.slots,
+            floors: self.floors,
+            rows: self.rows,
+            template_check: self.template_check,
+            message_check: self.message_check,
+            greatest: self.greatest,
+            hold_off: self.hold_off,
+        }
+    }
+
+    /// The cache of these parts. It takes no memory.
+    pub fn from_parts(parts: SlotParts<P>) -> Self
+        requires kept { IsKept (state_of parts) }
+        ensures state { result ≡ state_of parts }
+    {
+        SlotCache {
+            slots: parts.slots,
+            floors: parts.floors,
+            rows: parts.rows,
+            template_check: parts.template_check,
+            message_check: parts.message_check,
+            greatest: parts.greatest,
+            hold_off: parts.hold_off,
+        }
     }
 }
 

@@ -3,15 +3,16 @@ ghost use Rattle.std.specs.Prelude.{◌≡◌, None};
 ghost use Rattle.std.specs.Option.{option_copied};
 ghost use Rattle.wan_value.specs.AsModel.{ask_of};
 ghost use Rattle.wan_cache.specs.Rules.{IsFound, found_by, shown, placed};
-ghost use Rattle.slot_cache.specs.SlotRow.{if_same, main_of, interim_of, IsGivenTo, Stores};
+ghost use Rattle.slot_cache.specs.SlotRow.{if_same, not_before, main_of, interim_of, IsGivenTo, Stores};
 
 use crate::key_copy::KeyCopy;
 use wan_cache::{Ask, Look, LookTimes, Moment, Put, Value, look_at, placed};
 use wiki_titles::Title;
 
-/// A slot's key and its two places.
+/// A slot's key and its two places. A cache that is taken apart (`SlotParts`) hands its rows on; whoever has them gives
+/// each call the floor of its slot.
 #[derive(Drop)]
-pub(crate) struct SlotRow<P> {
+pub struct SlotRow<P> {
     /// Whose the two values are; before the first put no title's.
     pub(crate) key: KeyCopy,
     /// What was stored while the slot was free. A value that was set before the slot's floor is as good as gone.
@@ -34,7 +35,7 @@ impl<P: Drop> SlotRow<P> {
     }
 
     /// What is there for the key, by the slot's floor and the check.
-    pub(crate) fn look(&self, key: &Title, times: &LookTimes, ask: &Ask) -> Look<P>
+    pub fn look(&self, key: &Title, times: &LookTimes, ask: &Ask) -> Look<P>
         ensures { let main = shown (main_of self.now key.now) in
             let interim = shown (interim_of self.now key.now) in
             IsFound result (found_by times.now (ask_of ask.now) main interim) }
@@ -49,7 +50,7 @@ impl<P: Drop> SlotRow<P> {
     }
 
     /// Puts the value where it belongs, by the slot's floor and the check. If it is stored, the slot is its key's.
-    pub(crate) fn put(&mut self, key: &Title, floor: Moment, check: Moment, value: Value<P>) -> Put
+    pub fn put(&mut self, key: &Title, floor: Moment, check: Moment, value: Value<P>) -> Put
         ensures answer { result ≡ placed floor check value.set_at value.lagged }
         ensures stores { Stores self.old self.new key.now value result }
     {
@@ -66,6 +67,15 @@ impl<P: Drop> SlotRow<P> {
             _ => {}
         }
         put
+    }
+
+    /// Drops a main value that was set before this floor, since no look finds it any more. The rest stays.
+    pub fn drop_before(&mut self, floor: Moment)
+        ensures { self.new ≡ (record self.old { main = not_before floor self.old.main }) }
+    {
+        if matches!(&self.main, Some(value) if value.set_at < floor) {
+            self.main = None;
+        }
     }
 
     // Makes the slot this key's. If it was another's, both of that one's values go: the first page says why that is

@@ -45,9 +45,11 @@ module _ {P : Type 0} where
   Places old new floor check value Main =
       (is_held floor check value.set_at ≡ false) × (option_map value_of new.main ≡ Some value) × SameInterim old new
   Places old new floor check value Interim =
-      (is_held floor check value.set_at ≡ true) × (value.lagged ≡ false) × (option_map value_of new.interim ≡ Some value) × SameMain old new
+      (is_held floor check value.set_at ≡ true) × (value.lagged ≡ false)
+      × (option_map value_of new.interim ≡ Some value) × SameMain old new
   Places old new floor check value (Held until) =
-      (is_held floor check value.set_at ≡ true) × (value.lagged ≡ true) × (until ≡ (if nat_lt value.set_at floor then floor else check))
+      (is_held floor check value.set_at ≡ true) × (value.lagged ≡ true)
+      × (until ≡ (if nat_lt value.set_at floor then floor else check))
       × SameInterim old new × SameMain old new
   Places old new floor check value (Busy holder) = ⊥
   Places old new floor check value Memory = ⊥
@@ -59,7 +61,8 @@ module _ {P : Type 0} where
   abbrev pub IsRenewed : (old new : Option (CacheRow P)) → (next : ℕ) → Type 0
   IsRenewed old None next = ⊥
   IsRenewed None (Some new) next = IsNewRow new next
-  IsRenewed (Some old) (Some new) next = (new.floor ≡ old.floor) × (new.used ≡ next) × SameMain old new × SameInterim old new
+  IsRenewed (Some old) (Some new) next =
+      (new.floor ≡ old.floor) × (new.used ≡ next) × SameMain old new × SameInterim old new
 
   -- what a look finds in a row, by the floor under all keys
   abbrev pub found_in : LookTimes → Ask → Option (CacheRow P) → Found P
@@ -74,7 +77,8 @@ module _ {P : Type 0} where
 
   -- a purge of a row
   abbrev pub Raises : (old new : CacheRow P) → (until : ℕ) → Type 0
-  Raises old new until = (new.floor ≡ max old.floor until) × (new.main ≡ None) × SameInterim old new × (new.used ≡ old.used)
+  Raises old new until =
+      (new.floor ≡ max old.floor until) × (new.main ≡ None) × SameInterim old new × (new.used ≡ old.used)
 
   abbrev pub RaisesAt : (old new : Option (CacheRow P)) → (until : ℕ) → Type 0
   RaisesAt (Some old) (Some new) until = Raises old new until
@@ -83,7 +87,8 @@ module _ {P : Type 0} where
   -- the main value is gone, and nothing else
   abbrev pub DropsMain : (old new : Option (CacheRow P)) → Type 0
   DropsMain None None = Unit {0}
-  DropsMain (Some old) (Some new) = (new.floor ≡ old.floor) × (new.main ≡ None) × SameInterim old new × (new.used ≡ old.used)
+  DropsMain (Some old) (Some new) =
+      (new.floor ≡ old.floor) × (new.main ≡ None) × SameInterim old new × (new.used ≡ old.used)
   DropsMain old new = ⊥
 
 -- whether it is this key

@@ -3,6 +3,7 @@ use Rattle.std.specs.Prelude.{ℕ, ◌≡◌, ◌≢◌, ◌⊎◌, ◌+◌, ◌
 use Rattle.std.specs.BTreeMap.{BTreeMap, get, is_at}
 use Rattle.std.specs.Map.{lookup}
 use Rattle.wiki_titles.specs.Order.{bytes_cmp}
+use Rattle.wiki_model.specs.Limits.{hold_off_max}
 use Rattle.wiki_model.specs.Titles.{Title}
 use Rattle.wiki_model.specs.declared.Put.{Put}
 use Rattle.wiki_model.specs.declared.Put.TheVariants.{Main, Interim, Held, Busy, Memory}
@@ -25,10 +26,6 @@ pub record MapState (P : Type 0) : Type 0 where
   pub greatest : ℕ
   pub hold_off : ℕ
 
--- the longest hold-off, in milliseconds, as HOLD_OFF_MAX
-abbrev pub hold_off_max : ℕ
-hold_off_max = 180_000
-
 abbrev pub row_in : {P : Type 0} → List (Title × CacheRow P) → Title → Option (CacheRow P)
 row_in rows key = lookup (is_at (bytes_cmp key)) rows
 
@@ -50,7 +47,9 @@ pub record IsOldest (uses : Title → Option ℕ) (key : Title) : Type 0 where
 
 -- A use of a key that is not kept, if there is no room, lets the key go whose use is oldest; no other key goes.
 pub record MakesRoom (uses new_uses : Title → Option ℕ) (key : Title) (count capacity : ℕ) : Type 0 where
-  pub goes : (q : Title) → q ≢ key → uses q ≢ new_uses q → (uses key ≡ None) × (capacity ≤ count) × IsOldest uses q × (new_uses q ≡ None)
+  pub goes :
+      (q : Title) → q ≢ key → uses q ≢ new_uses q → (uses key ≡ None) × (capacity ≤ count) × IsOldest uses q
+      × (new_uses q ≡ None)
   pub leaves : (q : Title) → uses key ≡ None → capacity ≤ count → IsOldest uses q → new_uses q ≡ None
 
 -- the floor under all keys, after a key with this floor was let go
@@ -58,7 +57,8 @@ abbrev pub raised : (base now gone : ℕ) → ℕ
 raised base now gone = if nat_lt now gone then max base gone else base
 
 -- What always holds of the rows and the order of their last use.
-pub record IsTable {P : Type 0} (rows : List (Title × CacheRow P)) (keys : List (ℕ × Title)) (capacity : ℕ) : Type 0 where
+pub record IsTable {P : Type 0} (rows : List (Title × CacheRow P)) (keys : List (ℕ × Title))
+    (capacity : ℕ) : Type 0 where
   -- (1) each kept key has the number of its last use, and each such number its key
   pub in_order : IsInOrder (used_in rows) (key_in keys)
   -- (2) no more keys are kept than may be
@@ -148,27 +148,31 @@ module _ {P : Type 0} where
     pub whose : (gone ≡ 0) ⊎ IsFloorOfGone old new key gone
 
   -- a use of the key, at this moment
-  pub record Uses (old new : Title → Option (CacheRow P)) (base new_base : ℕ) (key : Title) (next now : ℕ) : Type 0 where
+  pub record Uses (old new : Title → Option (CacheRow P)) (base new_base : ℕ) (key : Title)
+      (next now : ℕ) : Type 0 where
     pub gone : ℕ
     pub claims : Claims old new key next gone
     pub raise : new_base ≡ raised base now gone
 
   -- a put of the value into the key's row, which has got the newest use
-  pub record Stored (old new : Title → Option (CacheRow P)) (base new_base : ℕ) (key : Title) (next check : ℕ) (value : Cached P) (answer : Put) : Type 0 where
+  pub record Stored (old new : Title → Option (CacheRow P)) (base new_base : ℕ) (key : Title) (next check : ℕ)
+      (value : Cached P) (answer : Put) : Type 0 where
     pub middle : Title → Option (CacheRow P)
     pub used : Uses old middle base new_base key next value.set_at
     pub others : (q : Title) → q ≢ key → new q ≡ middle q
     pub itself : StoresAt (middle key) (new key) new_base check value answer
 
   -- a purge of the key's row, which has got the newest use
-  pub record Purged (old new : Title → Option (CacheRow P)) (base new_base : ℕ) (key : Title) (next now until : ℕ) : Type 0 where
+  pub record Purged (old new : Title → Option (CacheRow P)) (base new_base : ℕ) (key : Title)
+      (next now until : ℕ) : Type 0 where
     pub middle : Title → Option (CacheRow P)
     pub used : Uses old middle base new_base key next now
     pub others : (q : Title) → q ≢ key → new q ≡ middle q
     pub itself : RaisesAt (middle key) (new key) until
 
   -- a purge of all keys
-  pub record PurgedAll (old new : Title → Option (CacheRow P)) (base new_base : ℕ) (key : Title) (until : ℕ) : Type 0 where
+  pub record PurgedAll (old new : Title → Option (CacheRow P)) (base new_base : ℕ) (key : Title)
+      (until : ℕ) : Type 0 where
     pub raise : new_base ≡ max base until
     pub others : (q : Title) → q ≢ key → new q ≡ old q
     pub itself : DropsMain (old key) (new key)
@@ -178,15 +182,21 @@ module _ {P : Type 0} where
   SameRows old new base new_base = ((q : Title) → new q ≡ old q) × (new_base ≡ base)
 
   -- what a put did: if memory was refused, nothing
-  abbrev pub PutDoes : (old new : Title → Option (CacheRow P)) (base new_base : ℕ) (key : Title) (next check : ℕ) → Cached P → Put → Type 0
+  abbrev pub PutDoes :
+      (old new : Title → Option (CacheRow P)) (base new_base : ℕ) (key : Title) (next check : ℕ) → Cached P → Put
+      → Type 0
   PutDoes old new base new_base key next check value Memory = SameRows old new base new_base
   PutDoes old new base new_base key next check value Main = Stored old new base new_base key next check value Main
   PutDoes old new base new_base key next check value Interim = Stored old new base new_base key next check value Interim
-  PutDoes old new base new_base key next check value (Held until) = Stored old new base new_base key next check value (Held until)
+  PutDoes old new base new_base key next check value (Held until) =
+      Stored old new base new_base key next check value (Held until)
   PutDoes old new base new_base key next check value (Busy holder) = ⊥
 
   -- what a purge did
-  abbrev pub PurgeDoes : (old new : Title → Option (CacheRow P)) (base new_base : ℕ) (key : Title) (next now until count capacity : ℕ) → Type 0
+  abbrev pub PurgeDoes :
+      (old new : Title → Option (CacheRow P)) (base new_base : ℕ) (key : Title) (next now until count capacity : ℕ)
+      → Type 0
   PurgeDoes old new base new_base key next now until count capacity =
-      (Purged old new base new_base key next now until × MakesRoom (λ q. last_use (old q)) (λ q. last_use (new q)) key count capacity)
+      (Purged old new base new_base key next now until
+      × MakesRoom (λ q. last_use (old q)) (λ q. last_use (new q)) key count capacity)
       ⊎ PurgedAll old new base new_base key until

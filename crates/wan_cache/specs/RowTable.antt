@@ -23,4 +23,5 @@ module _ {P : Type 0} where
 
   abbrev pub PurgesIn : (old new : RowTable P) → Title → (now until : ℕ) → Type 0
   PurgesIn old new key now until =
-      PurgeDoes (row_at old.rows) (row_at new.rows) old.base new.base key old.uses.next now until (btree_map_len old.rows) old.capacity
+      PurgeDoes (row_at old.rows) (row_at new.rows) old.base new.base key old.uses.next now until
+      (btree_map_len old.rows) old.capacity

@@ -44,4 +44,5 @@ free_by times ask main = model.found_free times.floor times.check times.at ask m
 -- where a put places a value, by the key's floor and the check
 abbrev pub placed : (floor check set_at : ℕ) (lagged : Bool) → Put
 placed floor check set_at lagged =
-    if model.is_held floor check set_at then (if lagged then put.Held (if nat_lt set_at floor then floor else check) else put.Interim) else put.Main
+    if model.is_held floor check set_at then
+    (if lagged then put.Held (if nat_lt set_at floor then floor else check) else put.Interim) else put.Main

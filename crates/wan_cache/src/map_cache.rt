@@ -1,6 +1,6 @@
 // A region's cache over ordered maps, of bounded size.
 ghost use Rattle.std.specs.Prelude.{◌≡◌, ◌≢◌, ◌+◌, ◌<◌, ◌≤◌, false};
-ghost use Rattle.wiki_model.specs.Limits.{greatest_moment};
+ghost use Rattle.wiki_model.specs.Limits.{greatest_moment, hold_off_max};
 ghost use Rattle.wiki_model.specs.Cache.{IsEmptyCache, Puts, Purges, Touches};
 ghost use Rattle.wan_value.specs.AsModel.{value_of};
 ghost use Rattle.wan_cache.specs.CacheRow.{floor_in};
@@ -57,7 +57,7 @@ impl<P: Drop> MapCache<P> {
         requires some { 0 < keys }
         requires few { keys ≤ KEYS_MAX }
         requires holds { 0 < hold_off }
-        requires short { hold_off ≤ HOLD_OFF_MAX }
+        requires short { hold_off ≤ hold_off_max }
         ensures empty { IsEmptyCache (map_of result) }
         ensures hold_off { (map_of result).hold_off ≡ hold_off }
         ensures capacity { result.capacity ≡ keys }

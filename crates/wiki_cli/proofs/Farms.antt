@@ -7,7 +7,7 @@ use Rattle.wiki_model.specs.declared.Readings.{Readings}
 use Rattle.wiki_model.specs.Bytes.{Bytes}
 use Rattle.wiki_model.specs.Titles.{Title}
 use Rattle.wiki_model.specs.History.{Entry}
-use Rattle.wiki_model.specs.Limits.{hold_off}
+use Rattle.wiki_model.specs.Limits.{hold_off, script_slots}
 use Rattle.wiki_model.specs.Cache.{CacheMap, IsEmptyCache}
 use Rattle.wiki_model.specs.Script.{Line}
 use Rattle.wiki_model.specs.Report.{no_readings}
@@ -18,7 +18,7 @@ use Rattle.farm_core.specs.FarmParts.{FarmParts}
 use Rattle.farm_core.specs.NewFarm.{IsFresh, Opens}
 use Rattle.script_runner.specs.Openings.{IsScriptPlan, IsScriptCache, StartsScript}
 use Rattle.script_runner.proofs.Opened.{starts}
-use Rattle.wiki_cli.specs.Ends.{script_slots, together}
+use Rattle.wiki_cli.specs.Ends.{together}
 
 pub opened : {K S E : Type 0} (content : K → Option (List Entry)) (faults : K → ℕ) (cache_of : S → CacheMap Bytes) (plan : FarmPlan) (before : K) (home west : S) (at : Readings) (result : Result (FarmParts K S) E) → at ≡ no_readings
     → IsScriptCache cache_of together Home plan home → IsScriptCache cache_of together West plan west

@@ -2,7 +2,6 @@
 use Rattle.std.proofs.Common.{◌≡◌, ℕ, ◌+◌, ◌≤◌, ◌<◌, inl, inr, List, [], ◌∷◌, ◌++◌, length, Option, None, Some, refl, sym, ap, subst, ◌∙◌, arith, Bool, true, false, nat_le, append-nil, append_assoc, length-append}
 use Rattle.std.specs.Prelude.{IfSome}
 use Rattle.std.proofs.lemmas.Bool.Decides.{nat_tests}
-use Rattle.std.specs.Io.KnownBytes.{IsAtEnd}
 use Rattle.wiki_model.specs.Bytes.{Bytes}
 use Rattle.wiki_model.specs.Limits.{script_max}
 use Rattle.wiki_model.specs.World.{World}
@@ -57,9 +56,6 @@ drills_input (Some all) (Some rest) bytes E before kept failed a b said reads dr
   where
     of_whole : (Claim : World → List Line → Type 0) → OfScript bytes before Claim → OfScript all before Claim
     of_whole Claim s = subst (λ (x : Bytes). OfScript x before Claim) (sym (whole_input all bytes rest reads.0 reads.1 s.is_script.small)) s
-
-pub read_to_end : (old new : Option Bytes) (bytes : Bytes) (before : ℕ) (Claim : World → List Line → Type 0) → ReadsAll script_max old new bytes → OfScript bytes before Claim → IsAtEnd new
-read_to_end old new bytes before Claim reads s = reads.1 s.is_script.small
 
 -- a line that ends within the first part
 cut_within : (xs ys text more : Bytes) → xs ++ ys ≡ text ++ 10 ∷ more → length text < length xs → (before : Bytes) × (xs ≡ text ++ 10 ∷ before)

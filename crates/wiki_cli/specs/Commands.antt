@@ -18,8 +18,10 @@ use Rattle.wiki_cli.specs.declared.status.Status.{Status}
 use Rattle.wiki_cli.specs.declared.status.Status.TheVariants as status
 
 -- what holds of the runs of these lines, from each start that a keeper without entries allows
-abbrev pub FromStart : {K : Type 0} → (K → Option (List Entry)) → (K → ℕ) → (keeper : K) → List Line → (World → Type 0) → Type 0
-FromStart content faults keeper lines Claim = content keeper ≡ Some [] → Claim (script_start together lines (faults keeper))
+abbrev pub FromStart :
+    {K : Type 0} → (K → Option (List Entry)) → (K → ℕ) → (keeper : K) → List Line → (World → Type 0) → Type 0
+FromStart content faults keeper lines Claim =
+    content keeper ≡ Some [] → Claim (script_start together lines (faults keeper))
 
 -- a farm that was not opened: the status says why
 abbrev pub fault_status : NewFault → Status
@@ -46,9 +48,11 @@ IsCommandEnd (status.NotEmpty n) = Unit {0}
 IsCommandEnd said = IsSourceEnd said
 
 -- What is written of a script's counts, by its bytes.
-abbrev pub CountsScript : (input : Bytes) → (steps faults_before : ℕ) → Kept → (failed : Type 0) → (old now : Option Bytes) → Status → Type 0
+abbrev pub CountsScript :
+    (input : Bytes) → (steps faults_before : ℕ) → Kept → (failed : Type 0) → (old now : Option Bytes) → Status → Type 0
 CountsScript input steps before kept failed old now said =
-    EndsSummary (λ text. OfScript input before (λ start lines. IsSummaryFrom start steps lines kept text)) failed old now said
+    EndsSummary
+    (λ text. OfScript input before (λ start lines. IsSummaryFrom start steps lines kept text)) failed old now said
 
 -- the numbers of a command are within their limits
 abbrev pub IsAllowed : Command → Type 0

@@ -3,6 +3,7 @@
 use Rattle.std.specs.Prelude.{◌≡◌, ℕ, ◌⊎◌, ◌≤◌, Bool, List, [], ◌++◌, length, reverse, Option, None, Some}
 use Rattle.wiki_model.specs.declared.Region.{Region}
 use Rattle.wiki_model.specs.Bytes.{Bytes}
+use Rattle.wiki_model.specs.Limits.{script_slots}
 use Rattle.wiki_model.specs.Titles.{Title}
 use Rattle.wiki_model.specs.History.{Entry}
 use Rattle.wiki_model.specs.World.{World}
@@ -28,10 +29,6 @@ exit_number status.StoreFault = 6
 exit_number status.Memory = 7
 exit_number (status.NotEmpty n) = 9
 
--- how many slots each cache of a script's farm has
-abbrev pub script_slots : ℕ
-script_slots = 65_536
-
 -- in the caches of the program two titles are together if they have one slot
 abbrev pub together : Region → Title → Title → Bool
 together r a b = same_slot script_slots a b
@@ -56,7 +53,8 @@ pub record Kept : Type 0 where
   pub faults : ℕ
 
 -- The turns are those of these lines, and lead from the start to a last world, whose history is then the keeper's.
-pub record IsRunFrom (start : World) (lines : List Line) (kept : Kept) (turns : List (List Turn)) (last : World) : Type 0 where
+pub record IsRunFrom (start : World) (lines : List Line) (kept : Kept) (turns : List (List Turn))
+    (last : World) : Type 0 where
   pub makes : MakesAll no_readings lines turns
   pub run : IsRun start (reverse (flat turns)) last
   pub history_is : kept.history ≡ Some last.history
@@ -99,14 +97,15 @@ abbrev pub IsCutReportOf : (input : Bytes) → (faults_before : ℕ) → Kept �
 IsCutReportOf input before kept text = OfScript input before (λ start lines. IsCutReportFrom start lines kept text)
 
 abbrev pub IsSummaryOf : (seed steps : ℕ) → (faults_before : ℕ) → Kept → (text : Bytes) → Type 0
-IsSummaryOf seed steps before kept text = OfScript (stirred seed steps) before (λ start lines. IsSummaryFrom start steps lines kept text)
+IsSummaryOf seed steps before kept text =
+    OfScript (stirred seed steps) before (λ start lines. IsSummaryFrom start steps lines kept text)
 
 -- such a text is written, or a prefix of it
 abbrev pub Writes : (Is Writes : Bytes → Type 0) → Type 0
 Writes Is Has = (text : Bytes) × Is text × Has text
 
--- What is written of a run by its end. `Whole` says what the report is, `Cut` what it is without its last line. All steps are
--- made whatever becomes of the writing.
+-- What is written of a run by its end. `Whole` says what the report is, `Cut` what it is without its last line. All
+-- steps are made whatever becomes of the writing.
 abbrev pub EndsReport : (Whole Cut : Bytes → Type 0) → (failed : Type 0) → (old new : Option Bytes) → Status → Type 0
 EndsReport Whole Cut failed old new status.Ok = Writes Whole (Adds old new)
 EndsReport Whole Cut failed old new status.WriteFault = Writes Whole (AddsPrefix old new)
@@ -117,7 +116,8 @@ EndsReport Whole Cut failed old new (status.NotEmpty n) = ⊥
 EndsReport Whole Cut failed old new _ = Unit {0}
 
 -- What `drill` makes of a script's bytes over a keeper whose history is empty.
-abbrev pub Drills : (input : Bytes) → (faults_before : ℕ) → Kept → (failed : Type 0) → (old new : Option Bytes) → Status → Type 0
+abbrev pub Drills :
+    (input : Bytes) → (faults_before : ℕ) → Kept → (failed : Type 0) → (old new : Option Bytes) → Status → Type 0
 Drills input before kept failed old new said =
     EndsReport (IsReportOf input before kept) (IsCutReportOf input before kept) failed old new said
 
@@ -130,7 +130,8 @@ EndsSummary Whole failed old new status.StoreFault = IsWritten failed old new st
 EndsSummary Whole failed old new _ = ⊥
 
 -- What `stir` makes of a seed and a number of steps over such a keeper.
-abbrev pub Stirs : (seed steps : ℕ) → (faults_before : ℕ) → Kept → (failed : Type 0) → (old new : Option Bytes) → Status → Type 0
+abbrev pub Stirs :
+    (seed steps : ℕ) → (faults_before : ℕ) → Kept → (failed : Type 0) → (old new : Option Bytes) → Status → Type 0
 Stirs seed steps before kept failed old new said = EndsSummary (IsSummaryOf seed steps before kept) failed old new said
 
 -- a script whose first faulty line this is

@@ -38,7 +38,9 @@ WritesText old new before now text status.WriteFault = AddsPrefix old new text �
 WritesText old new before now text _ = ⊥
 
 -- a text is written after a report that is whole; a report that is not stays as it is
-abbrev pub WritesLast : (before : ReportState) → (old new : Option Bytes) → (faults_before faults_now : ℕ) → (text : Bytes) → Status → Type 0
+abbrev pub WritesLast :
+    (before : ReportState) → (old new : Option Bytes) → (faults_before faults_now : ℕ) → (text : Bytes) → Status
+    → Type 0
 WritesLast state.Whole old new before now text status.Ok = Adds old new text × (before ≤ now)
 WritesLast state.Whole old new before now text status.WriteFault = AddsPrefix old new text × Rose before now
 WritesLast state.Whole old new before now text status.Memory = AddsPrefix old new text × (before ≤ now)
@@ -55,22 +57,29 @@ FailsReport state.Memory old new before now status.Memory = (new ≡ old) × (no
 FailsReport _ old new before now _ = ⊥
 
 -- what is written after the answers of a report
-abbrev pub ClosesReport : Told → Result ℕ KeepFault → (old new : Option Bytes) → (faults_before faults_now : ℕ) → Status → Type 0
-ClosesReport told (Ok entries) old new before now said = WritesLast told.state old new before now (end_line told.answers entries) said
+abbrev pub ClosesReport :
+    Told → Result ℕ KeepFault → (old new : Option Bytes) → (faults_before faults_now : ℕ) → Status → Type 0
+ClosesReport told (Ok entries) old new before now said =
+    WritesLast told.state old new before now (end_line told.answers entries) said
 ClosesReport told (Err keep.Fault) old new before now said = FailsReport told.state old new before now said
 ClosesReport told (Err keep.Memory) old new before now said = (said ≡ status.Memory) × (new ≡ old) × (now ≡ before)
 
 -- what is written of counted answers: nothing, if memory runs out
-abbrev pub WritesCounts : (old new : Option Bytes) → (faults_before faults_now : ℕ) → (steps entries : ℕ) → Summary → Status → Type 0
+abbrev pub WritesCounts :
+    (old new : Option Bytes) → (faults_before faults_now : ℕ) → (steps entries : ℕ) → Summary → Status → Type 0
 WritesCounts old new before now steps entries summary status.Ok =
     (answers : List Answer) → IsSummaryOf summary answers → Adds old new (summary_of steps entries answers)
 WritesCounts old new before now steps entries summary status.WriteFault =
-    ((answers : List Answer) → IsSummaryOf summary answers → AddsPrefix old new (summary_of steps entries answers)) × Rose before now
+    ((answers : List Answer) → IsSummaryOf summary answers → AddsPrefix old new (summary_of steps entries answers))
+    × Rose before now
 WritesCounts old new before now steps entries summary status.Memory = new ≡ old
 WritesCounts old new before now steps entries summary _ = ⊥
 
-abbrev pub WritesSummary : (steps : ℕ) → Summary → Result ℕ KeepFault → (old new : Option Bytes) → (faults_before faults_now : ℕ) → Status → Type 0
-WritesSummary steps summary (Ok entries) old new before now said = WritesCounts old new before now steps entries summary said
+abbrev pub WritesSummary :
+    (steps : ℕ) → Summary → Result ℕ KeepFault → (old new : Option Bytes) → (faults_before faults_now : ℕ) → Status
+    → Type 0
+WritesSummary steps summary (Ok entries) old new before now said =
+    WritesCounts old new before now steps entries summary said
 WritesSummary steps summary (Err keep.Fault) old new before now said =
     (said ≡ status.StoreFault) × IsWritten (Rose before now) old new store_fault_line
 WritesSummary steps summary (Err keep.Memory) old new before now said = (said ≡ status.Memory) × (new ≡ old)

@@ -15,6 +15,7 @@ pub struct Reading<R: Drop> {
 }
 
 impl<R: Read + Drop> Reading<R> {
+    /// A source over the reader, of which nothing was read; no fault is counted.
     pub fn new(inner: R) -> Self {
         Reading { inner, faults: 0 }
     }
@@ -45,6 +46,7 @@ pub struct Writing<W: Drop> {
 }
 
 impl<W: Write + Drop> Writing<W> {
+    /// A sink over the writer, to which nothing was written; no fault is counted.
     pub fn new(inner: W) -> Self {
         Writing { inner, faults: 0 }
     }

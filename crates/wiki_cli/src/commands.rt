@@ -1,8 +1,8 @@
 // The commands, over a keeper of the history: what each reads, runs and writes.
-ghost use Rattle.std.specs.Prelude.{◌≡◌, ◌≤◌, ◌<◌, ◌+◌, [], Some, ℕ, List, IfSome};
+ghost use Rattle.std.specs.Prelude.{◌≡◌, ◌≤◌, ◌<◌, ◌+◌, [], Some, ℕ, List, IfSome, length};
 ghost use Rattle.std.specs.Io.KnownBytes.{IsAtEnd};
 ghost use Rattle.wiki_model.specs.Steps.{Rose};
-ghost use Rattle.wiki_model.specs.Limits.{seed_limit, steps_max};
+ghost use Rattle.wiki_model.specs.Limits.{script_max, seed_limit, steps_max};
 ghost use Rattle.wiki_model.specs.Script.{Line, IsScript};
 ghost use Rattle.revision_keeper.specs.Causes.{HasFault};
 ghost use Rattle.revision_keeper.specs.Keeper.{IsLength};
@@ -35,6 +35,7 @@ pub fn drill_bytes<K: Keeper + Drop, O: Sink>(
         (K.faults keeper) (kept_by K.content K.faults result.keeper)
         (Rose (O.faults sink.old) (O.faults sink.new)) (O.written sink.old) (O.written sink.new) result.status }
     ensures refused { IsRefusedBy bytes.now result.status }
+    ensures short { result.status ≡ Done → length bytes.now ≤ script_max }
     ensures says { Says (Rose (O.faults sink.old) (O.faults sink.new))
         (O.written sink.old) (O.written sink.new) result.status }
     ensures end { IsDrillEnd result.status }
@@ -132,7 +133,7 @@ pub fn drill_source<I: Source, K: Keeper + Drop, O: Sink>(
         (O.written sink.old) (O.written sink.new) result.status }
     ensures end { IsSourceEnd result.status }
     ensures read { result.status ≡ ReadFault → Rose (I.faults source.old) (I.faults source.new) }
-    ensures read_out { K.content keeper ≡ Some [] → result.status ≡ Done → IsAtEnd (I.left source.new) }
+    ensures read_out { result.status ≡ Done → IsAtEnd (I.left source.new) }
     ensures cause { HasRisen (Rose (O.faults sink.old) (O.faults sink.new))
         (Rose (K.faults keeper) (K.faults result.keeper)) result.status }
 {
@@ -181,8 +182,7 @@ pub fn perform<I: Source, K: Keeper + Drop, O: Sink>(
         (O.written sink.old) (O.written sink.new) result.status }
     ensures end { IsCommandEnd result.status }
     ensures read { result.status ≡ ReadFault → Rose (I.faults source.old) (I.faults source.new) }
-    ensures read_out { command ≡ Drill → K.content keeper ≡ Some []
-        → result.status ≡ Done → IsAtEnd (I.left source.new) }
+    ensures read_out { command ≡ Drill → result.status ≡ Done → IsAtEnd (I.left source.new) }
     ensures cause { HasRisen (Rose (O.faults sink.old) (O.faults sink.new))
         (Rose (K.faults keeper) (K.faults result.keeper)) result.status }
 {
@@ -223,8 +223,7 @@ fn perform_on_empty<I: Source, K: Keeper + Drop, O: Sink>(
         (O.written sink.old) (O.written sink.new) result.status }
     ensures end { IsSourceEnd result.status }
     ensures read { result.status ≡ ReadFault → Rose (I.faults source.old) (I.faults source.new) }
-    ensures read_out { command ≡ Drill → K.content keeper ≡ Some []
-        → result.status ≡ Done → IsAtEnd (I.left source.new) }
+    ensures read_out { command ≡ Drill → result.status ≡ Done → IsAtEnd (I.left source.new) }
     ensures cause { HasRisen (Rose (O.faults sink.old) (O.faults sink.new))
         (Rose (K.faults keeper) (K.faults result.keeper)) result.status }
 {

@@ -96,9 +96,7 @@ where
         (Rose (K.faults before) (K.faults after)) result) }
 
     // A script that was run was read to its end.
-    ensures read_out { AreWordsOf Drill words.now
-        → OfKeepers outside.old.keeper outside.new.keeper (λ before after. K.content before ≡ Some []
-        → result ≡ Done → IsAtEnd (I.left outside.new.source)) }
+    ensures read_out { AreWordsOf Drill words.now → result ≡ Done → IsAtEnd (I.left outside.new.source) }
 
     // If nothing fails, a script is run on an empty history and its report written, unless memory runs out.
     ensures complete_drill { AreWordsOf Drill words.now

@@ -2,13 +2,14 @@
 ghost use Rattle.std.specs.Prelude.{◌≡◌, ◌≤◌, List, IfOk, IfErr};
 ghost use Rattle.wiki_model.specs.declared.Region.TheVariants.{Home, West};
 ghost use Rattle.wiki_model.specs.declared.Region.{Region};
+ghost use Rattle.wiki_model.specs.Limits.{script_slots};
 ghost use Rattle.wiki_model.specs.Script.{Line};
 ghost use Rattle.wiki_model.specs.Report.{no_readings};
 ghost use Rattle.slot_cache.specs.AsModel.{map_of};
 ghost use Rattle.drill_script.specs.ReadScript.{HasRoom};
 ghost use Rattle.farm_core.specs.NewFarm.{HasNewFault};
 ghost use Rattle.script_runner.specs.Openings.{IsScriptPlan, IsScriptCache, StartsScript};
-ghost use Rattle.wiki_cli.specs.Ends.{script_slots, together};
+ghost use Rattle.wiki_cli.specs.Ends.{together};
 
 use farm_base::{Memory, Moment, Readings};
 use farm_core::{Farm, FarmPlan, NewFault, Page};

@@ -2,7 +2,6 @@ pub mod AtMostOnce
 pub mod ClapWalk
 pub mod KeptRanges
 pub mod LayoutExamples
-pub mod NotUtf8
 pub mod OptionTurns
 pub mod OptionWords
 pub mod ParsedNumbers

@@ -5,7 +5,7 @@ use Rattle.clap.specs.Simple.{App, new_app, new_rule, with_rule, on_top}
 use Rattle.clap.specs.declared.builder.action.ArgAction.TheVariants.{Set}
 use Rattle.wiki_model.specs.Bytes.{Bytes}
 use Rattle.wiki_model.specs.Commands.{Options, AreOptions, is_path}
-use Rattle.wiki_layout.specs.Options.{connections_max, connections_default}
+use Rattle.wiki_model.specs.Limits.{connections_max, connections_default}
 
 abbrev pub option_rule : Bytes → Rule
 option_rule name = record (new_rule name) { long = Some name; action = Some Set }

@@ -6,36 +6,12 @@ use Rattle.std.specs.Str.{is_utf8}
 use Rattle.toml.specs.Data.{Data, Items, no_items, item, Members, no_members, member, get_member, get, as_integer, as_array, as_table}
 use Rattle.toml.specs.Parse.{parse_document}
 use Rattle.wiki_model.specs.Bytes.{Bytes}
-use Rattle.wiki_model.specs.Limits.{Bounds, default_bounds, greatest_moment, replicas_max, weight_max, bound_max}
+use Rattle.wiki_model.specs.Limits.{Bounds, default_bounds, greatest_moment, replicas_max, weight_max, bound_max, layout_max, slots_min, slots_max, slots_default, workers_max, pace_max}
 use Rattle.wiki_model.specs.declared.Region.{Region}
 use Rattle.wiki_model.specs.Titles.{Title}
 use Rattle.wiki_model.specs.World.{Setting}
 use Rattle.wiki_layout.specs.declared.rules.Rule.{Rule}
 use Rattle.wiki_layout.specs.declared.rules.Rule.TheVariants.{Names, Kinds, Ranges}
-
--- Limits
-
--- bytes of a layout
-abbrev pub layout_max : ℕ
-layout_max = 65_536
-
--- pages that a cache has room for
-abbrev pub slots_min : ℕ
-slots_min = 256
-
-abbrev pub slots_max : ℕ
-slots_max = 65_536
-
-abbrev pub slots_default : ℕ
-slots_default = 4_096
-
--- workers of a round
-abbrev pub workers_max : ℕ
-workers_max = 8
-
--- entries that a replica applies before a request, and as many if the key is absent
-abbrev pub pace_max : ℕ
-pace_max = 1_000
 
 -- What may stand at a key: a number in a range, or the weights of a region's replicas
 

@@ -3,15 +3,9 @@ use Rattle.std.specs.Prelude.{ℕ, Bool, true, false, ◌&&◌, ◌||◌, if◌t
 use Rattle.std.specs.List.{list_all}
 use Rattle.std.specs.Str.Parse.{digits_value}
 use Rattle.wiki_model.specs.Bytes.{Bytes, begins}
+use Rattle.wiki_model.specs.Limits.{connections_max, connections_default}
 use Rattle.wiki_model.specs.Titles.{is_digit}
 use Rattle.wiki_model.specs.Commands.{Options, AreOptions, Given, Connections, Store, Link, is_path}
-
--- connections that a served farm takes, and as many if nothing is said
-abbrev pub connections_max : ℕ
-connections_max = 1_000_000
-
-abbrev pub connections_default : ℕ
-connections_default = 1
 
 -- digits without a leading zero
 abbrev pub is_numeral : Bytes → Bool

@@ -8,13 +8,13 @@ use Rattle.toml.specs.Data.{Members}
 use Rattle.toml.specs.View.{table_view}
 use Rattle.wiki_model.specs.declared.Region.{Region}
 use Rattle.wiki_model.specs.Bytes.{Bytes}
-use Rattle.wiki_model.specs.Limits.{greatest_moment, replicas_max, bound_max}
+use Rattle.wiki_model.specs.Limits.{greatest_moment, replicas_max, bound_max, slots_min, slots_max, workers_max, pace_max}
 use Rattle.wiki_model.specs.Titles.{Title}
 use Rattle.farm_base.specs.AsModel.{bounds_of, are_allowed}
 use Rattle.region_state.specs.AsModel.{IsPlanOf}
 use Rattle.region_state.specs.declared.plan.FarmPlan.{FarmPlan}
 use Rattle.region_state.specs.declared.plan.RegionPlan.{RegionPlan}
-use Rattle.wiki_layout.specs.Layout.{Plan, layout_of, setting_of, slots_min, slots_max, workers_max, pace_max}
+use Rattle.wiki_layout.specs.Layout.{Plan, layout_of, setting_of}
 use Rattle.wiki_layout.specs.AsModel.{plan_of}
 use Rattle.wiki_layout.specs.declared.layout.LayoutFault.{LayoutFault}
 use Rattle.wiki_layout.specs.declared.layout.LayoutFault.TheVariants.{Rule, Memory}

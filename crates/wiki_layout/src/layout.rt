@@ -3,9 +3,9 @@ ghost use Rattle.std.specs.Prelude.{◌≡◌, ◌≤◌, ◌<◌, true, IfOk, S
 ghost use Rattle.std.specs.Str.{is_utf8};
 ghost use Rattle.toml.specs.Parse.{parse_document};
 ghost use Rattle.toml.specs.View.{table_view};
-ghost use Rattle.wiki_model.specs.Limits.{bound_max};
+ghost use Rattle.wiki_model.specs.Limits.{bound_max, slots_min, slots_max};
 ghost use Rattle.farm_base.specs.AsModel.{bounds_of, are_allowed};
-ghost use Rattle.wiki_layout.specs.Layout.{layout_of, layout_of_document, document_in, plan_in, bounds_in, keeps, kind_at, Number, Weights, weights_at, slots_at, slots_min, slots_max};
+ghost use Rattle.wiki_layout.specs.Layout.{layout_of, layout_of_document, document_in, plan_in, bounds_in, keeps, kind_at, Number, Weights, weights_at, slots_at};
 ghost use Rattle.wiki_layout.specs.AsModel.{plan_of};
 ghost use Rattle.wiki_layout.specs.ReadLayout.{Reads, ReadsDocument, IsPlan, IsAllowed, IsAllowedRegion};
 

@@ -1,4 +1,5 @@
--- What a whole request, made step by step at one reading, is answered: each ends with one answer, and of these kinds alone.
+-- What a whole request, made step by step at one reading, is answered: each ends with one answer, and of these kinds
+-- alone.
 use Rattle.std.specs.Prelude.{ℕ, ◌≡◌, ◌⊎◌, ◌≤◌, true, List, [], ◌∷◌, ◌++◌, length, Option, Some, None, option_map}
 use Rattle.wiki_model.specs.declared.Region.{Region}
 use Rattle.wiki_model.specs.declared.Readings.{Readings}

@@ -1,4 +1,5 @@
--- What a step does with a region's cache: how a purge is taken, which value and note a store has, and what is answered of a look.
+-- What a step does with a region's cache: how a purge is taken, which value and note a store has, and what is answered
+-- of a look.
 use Rattle.std.specs.Prelude.{ℕ, ◌≡◌, Bool, true, false, List, Option, Some, None}
 use Rattle.wiki_model.specs.declared.Origin.{Origin}
 use Rattle.wiki_model.specs.declared.Origin.TheVariants as via
@@ -28,7 +29,15 @@ pub record TakesPurge (old new : CacheMap Bytes) (title : Title) (now : ℕ) : T
 abbrev pub value_of_snapshot : List Entry → (page : Bytes) → (upto now life : ℕ) → (lagged : Bool)
     → (markup : ℕ) → Cached Bytes
 value_of_snapshot history page upto now life lagged markup =
-    record { page = page; upto = upto; stamp = stamp_at history upto; set_at = now; life = life; lagged = lagged; version = markup }
+    record {
+      page = page;
+      upto = upto;
+      stamp = stamp_at history upto;
+      set_at = now;
+      life = life;
+      lagged = lagged;
+      version = markup;
+    }
 
 -- the mark of a value by its rule; under the other rules nothing is put
 abbrev pub IsMarkedBy : SetRule → (lagged : Bool) → Type 0
@@ -56,10 +65,24 @@ ask_of w need = record { epoch = w.setting.epoch; version = w.markup; need = nee
 
 -- the answer from a cached value, and from a snapshot
 abbrev pub answer_from : Title → Origin → Cached Bytes → PageAnswer
-answer_from title origin v = record { title = title; source = v.upto; origin = origin; put = None; lagged = v.lagged; page = v.page }
+answer_from title origin v = record {
+  title = title;
+  source = v.upto;
+  origin = origin;
+  put = None;
+  lagged = v.lagged;
+  page = v.page;
+}
 
 abbrev pub answer_of_replica : Title → Snapshot → (replica : ℕ) → PutNote → Bytes → PageAnswer
-answer_of_replica title s i note page = record { title = title; source = s.upto; origin = via.Replica i; put = Some note; lagged = is_lagged_choice s.choice; page = page }
+answer_of_replica title s i note page = record {
+  title = title;
+  source = s.upto;
+  origin = via.Replica i;
+  put = Some note;
+  lagged = is_lagged_choice s.choice;
+  page = page;
+}
 
 -- what is answered of what a look finds, its origin and source, and the world afterwards
 abbrev pub look_answer : Title → Found Bytes → Answer

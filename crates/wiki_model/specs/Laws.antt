@@ -1,5 +1,5 @@
--- What is proved of these definitions: the laws that carry the promise.
--- Each is a statement about every run and every cache, and stands in the contract of a function of `src/laws.rt`, so that its proof is asked for.
+-- What is proved of these definitions: the laws that carry the promise. Each is a statement about every run and every
+-- cache, and stands in the contract of a function of `src/laws.rt`, so that its proof is asked for.
 use Rattle.std.specs.Prelude.{ℕ, ◌≡◌, ◌-◌, ◌<◌, ◌≤◌, max, Bool, true, false, List, [], ◌∷◌, ◌++◌, length, Option, Some, None, unwrap_or}
 use Rattle.std.specs.List.{AllByRecursion}
 use Rattle.wiki_model.specs.declared.Region.{Region}
@@ -43,7 +43,8 @@ use Rattle.wiki_model.specs.SharedRounds.{DoesShared}
 
 -- Of every run
 
--- each page that a step of a run answers is as promised to the view that the step names; so is the answer that there is none
+-- each page that a step of a run answers is as promised to the view that the step names; so is the answer that there is
+-- none
 abbrev pub PagesArePromised : Type 0
 PagesArePromised =
     (setting : Setting) (history : List Entry) (faults : ℕ) (at : Readings) (turns : List Turn)
@@ -167,7 +168,8 @@ PurgesKeepCaches =
     → TakesPurge old new title (moment r v) → IsEvent v w r (Received number title (moment r v))
     → CacheStands w r new
 
--- a put of a true value at the region's moment, with its store, keeps it, whatever the put answers: also that it found no memory
+-- a put of a true value at the region's moment, with its store, keeps it, whatever the put answers: also that it found
+-- no memory
 abbrev pub PutsKeepCaches : Type 0
 PutsKeepCaches =
     (v w : World) (r : Region) (old new : CacheMap Bytes) (key : Title) (value : Cached Bytes)
@@ -214,7 +216,8 @@ LooksAreAllowed =
     → Looks id (view, floor) w (Some (look_answer view.view.title seen))
     (looked id view floor seen w)
 
--- A run goes on by a look of a waited view: what the look finds leads on from the last world of the run, and the cache stands on.
+-- A run goes on by a look of a waited view: what the look finds leads on from the last world of the run, and the cache
+-- stands on.
 abbrev pub LooksGoOn : Type 0
 LooksGoOn =
     (setting : Setting) (history : List Entry) (faults : ℕ) (opened at : Readings)
@@ -342,7 +345,8 @@ abbrev pub OpeningsHaveRows : Type 0
 OpeningsHaveRows =
     (setting : Setting) (history : List Entry) (faults : ℕ) (at : Readings) (r : Region)
     → IsHistory history
-    → RowsStand (opening setting history faults at) r (told_all (young_commits (moment Home (opening setting history faults at)) history) no_rows)
+    → RowsStand (opening setting history faults at) r
+    (told_all (young_commits (moment Home (opening setting history faults at)) history) no_rows)
 
 abbrev pub EntriesKeepRows : Type 0
 EntriesKeepRows =
@@ -386,7 +390,8 @@ RoundsChangeEvents =
 -- a commit, late or not, is one more entry that home has heard
 abbrev pub CommitsAppend : Type 0
 CommitsAppend =
-    (v : World) (late : Bool) (edit : Edit) (purge : ℕ) → IsAppended v (appended_if late edit purge v) (next_commit v edit purge)
+    (v : World) (late : Bool) (edit : Edit) (purge : ℕ)
+    → IsAppended v (appended_if late edit purge v) (next_commit v edit purge)
 
 -- Of a cache that several workers share
 
@@ -401,7 +406,8 @@ SharedHitsAreSound =
     (Some value) interim ≡ Hit shown
     → IsSoundFromCache v with_all r title own (answer_from title via.Hit shown)
 
--- an interim answer is sound, and a note interim or held is allowed, if the cache that is given back has at least what the seat loaded
+-- an interim answer is sound, and a note interim or held is allowed, if the cache that is given back has at least what
+-- the seat loaded
 abbrev pub SharedInterimAnswersAreSound : Type 0
 SharedInterimAnswersAreSound =
     (v with_all : World) (r : Region) (new : CacheMap Bytes) (title : Title) (own : Floor)

@@ -65,7 +65,8 @@ pub record LooksUpStored (start : World) (turns : List Turn) (v : World)
   pub title : p.title ≡ view.view.title
   pub stored : WasStoredBy start turns v run view.region p.title p.source
 
--- The law: a page that a step look answers was made by an earlier turn of the run, a store or a round of the same region.
+-- The law: a page that a step look answers was made by an earlier turn of the run, a store or a round of the same
+-- region.
 abbrev pub CachedSourcesWereStored : Type 0
 CachedSourcesWereStored =
     (setting : Setting) (history : List Entry) (faults : ℕ) (at : Readings) (turns : List Turn)

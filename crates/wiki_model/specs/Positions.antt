@@ -1,5 +1,5 @@
--- What a region's store of positions finds: for each client the last commit that the region heard of, as long as that commit is young.
--- A position that is heard late, twice or after a newer one changes nothing that is found.
+-- What a region's store of positions finds: for each client the last commit that the region heard of, as long as that
+-- commit is young. A position that is heard late, twice or after a newer one changes nothing that is found.
 use Rattle.std.specs.Prelude.{ℕ, ◌≡◌, ◌⊎◌, ◌+◌, ◌≤◌, false, ◌==◌, if◌then◌else◌, List, [], ◌∷◌, Option, Some, None, IfSome, option_and_then, filter, nat_lt, bytes_eq}
 use Rattle.wiki_model.specs.declared.Region.{Region}
 use Rattle.wiki_model.specs.Titles.{Client}
@@ -30,7 +30,8 @@ later_of (Some a) (Some b) = if nat_lt a.index b.index then Some b else Some a
 abbrev pub if_young : (now stamp : ℕ) → Known → Option Known
 if_young now stamp known = if nat_lt now (stamp + position_life) then Some known else None
 
--- A store takes a position: from this moment on it finds the later of what it found and this one while it is young. Other clients are as before.
+-- A store takes a position: from this moment on it finds the later of what it found and this one while it is young.
+-- Other clients are as before.
 pub record TakesPosition (from : ℕ) (client : Client) (position : Known) (stamp : ℕ)
     (old new : Finder) : Type 0 where
   pub own : (now : ℕ) → from ≤ now → new client now ≡ later_of (old client now)
@@ -52,7 +53,8 @@ abbrev pub Rows : Type 0
 Rows = Client → Option Held
 
 abbrev pub unexpired : (now : ℕ) → Held → Option Known
-unexpired now held = if nat_lt now held.expires then Some (record { index = held.index; position = held.position }) else None
+unexpired now held =
+    if nat_lt now held.expires then Some (record { index = held.index; position = held.position }) else None
 
 -- what rows find
 abbrev pub finds : Rows → Finder
@@ -66,7 +68,8 @@ pub record IsRowOf (history : List Entry) (client : Client) (held : Held) : Type
   pub index_is : held.index ≡ commit.index
   pub expires_is : held.expires ≡ commit.stamp + position_life
 
--- What rows stand for. A row that has expired hides what is told later with a lesser index, so the second counts for it too.
+-- What rows stand for. A row that has expired hides what is told later with a lesser index, so the second counts for it
+-- too.
 pub record RowsStand (w : World) (r : Region) (rows : Rows) : Type 0 where
   -- 1. What the rows find is what the region knows.
   pub found : PositionsStand w r (finds rows)
@@ -95,7 +98,10 @@ SweepsRows now old new =
 -- the rows after these commits were told in turn
 abbrev pub told_all : List Numbered → Rows → Rows
 told_all [] rows = rows
-told_all (n ∷ ns) rows = told_all ns (λ client. if bytes_eq n.commit.edit.client client then Some (later_row (rows client) (row_for n.number n.commit)) else rows client)
+told_all (n ∷ ns) rows =
+    told_all ns
+    (λ client. if bytes_eq n.commit.edit.client client then Some (later_row (rows client) (row_for n.number n.commit))
+    else rows client)
 
 abbrev pub no_rows : Rows
 no_rows client = None

@@ -1,5 +1,6 @@
--- The main claim in one definition: what holds of a page that a run answers.
--- It is the page of the prefix that it names; it reaches what its session may not miss; and a hit that is not marked lagged lacks no commit whose purge was received within the bounds.
+-- The main claim in one definition: what holds of a page that a run answers. It is the page of the prefix that it
+-- names; it reaches what its session may not miss; and a hit that is not marked lagged lacks no commit whose purge was
+-- received within the bounds.
 use Rattle.std.specs.Prelude.{ℕ, ◌≡◌, ◌⊎◌, ◌≤◌, Bool, false, List, [], ◌∷◌, length, Option, Some, None}
 use Rattle.wiki_model.specs.declared.Region.{Region}
 use Rattle.wiki_model.specs.declared.Origin.TheVariants as via
@@ -83,7 +84,8 @@ pub record AnswersNoPage (start : World) (turns : List Turn) (v : World)
 -- the page answers a job of a round as promised: a job's floor is its need
 abbrev pub AnswersJob : World → Region → List Job → PageAnswer → Type 0
 AnswersJob v r jobs p =
-    (title : Title) × (need : ℕ) × (word : ℕ) × IsIn (ViewJob title need word) jobs × IsPromised v r title (record { need = need; own = 0 }) p
+    (title : Title) × (need : ℕ) × (word : ℕ) × IsIn (ViewJob title need word) jobs
+    × IsPromised v r title (record { need = need; own = 0 }) p
 
 -- a job of the round asks for a page that the prefix does not have, and the prefix reaches the job's need
 abbrev pub HasNoPageFor : World → List Job → (source : ℕ) → Type 0

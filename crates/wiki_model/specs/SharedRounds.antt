@@ -1,5 +1,5 @@
--- What a round of several workers does with the cache that is lent to it: what each of its jobs may answer by what a seat has seen.
--- With the cache given back as agreed, such answers are allowed by `MakesRound`.
+-- What a round of several workers does with the cache that is lent to it: what each of its jobs may answer by what a
+-- seat has seen. With the cache given back as agreed, such answers are allowed by `MakesRound`.
 use Rattle.std.specs.Prelude.{ℕ, ◌≡◌, ◌⊎◌, ◌≤◌, max, true, false, List, [], ◌∷◌, Option, Some, None, IfSome}
 use Rattle.wiki_model.specs.declared.Region.{Region}
 use Rattle.wiki_model.specs.declared.PutNote.{PutNote}
@@ -39,18 +39,21 @@ pub record IsSeen (v with_all : World) (r : Region) (old new : CacheMap Bytes) (
   pub loaded : IsLoaded v r old title s.floor s.template s.message
   pub low : IsLow new title s
   pub main : IfSome s.main (λ value. IsMainTrue v r title value × HasMaker with_all r title value)
-  pub interim : IfSome s.interim (λ value. IsTrueIn v r title value × (value.lagged ≡ false) × HasMaker with_all r title value)
+  pub interim :
+      IfSome s.interim (λ value. IsTrueIn v r title value × (value.lagged ≡ false) × HasMaker with_all r title value)
 
 -- the note of a value under Whole or Lagged: it was placed, or the key was found held, or the put met another's claim
 abbrev pub IsSharedNote : World → Region → (new : CacheMap Bytes) → Title → SetRule → PutNote
     → Type 0
 IsSharedNote v r new title rule.Whole n =
     (n ≡ note.Whole)
-    ⊎ ((n ≡ note.Interim) × (s : Seen) × IsLow new title s × (is_held s.floor (max s.template s.message) (moment r v) ≡ true))
+    ⊎ ((n ≡ note.Interim) × (s : Seen) × IsLow new title s
+    × (is_held s.floor (max s.template s.message) (moment r v) ≡ true))
     ⊎ IsBusy v.setting.workers n
 IsSharedNote v r new title rule.Lagged n =
     (n ≡ note.Lagged)
-    ⊎ ((n ≡ note.Held) × (s : Seen) × IsLow new title s × (is_held s.floor (max s.template s.message) (moment r v) ≡ true))
+    ⊎ ((n ≡ note.Held) × (s : Seen) × IsLow new title s
+    × (is_held s.floor (max s.template s.message) (moment r v) ≡ true))
     ⊎ IsBusy v.setting.workers n
 IsSharedNote v r new title rule.NoPending n = n ≡ note.NoPending
 IsSharedNote v r new title rule.NoOld n = n ≡ note.NoOld
@@ -76,8 +79,10 @@ abbrev pub AnswersShared : (v with_all : World) → Region → (old new : CacheM
 AnswersShared v with_all r old new title need word answer =
     (answer ≡ NoMemory)
     ⊎ ((s : Seen) × IsSeen v with_all r old new title s
-    × AnswersSeen title answer (found old.hold_off s.floor (max s.template s.message) (moment r v) (ask_of v need) s.main s.interim))
-    ⊎ ((s : Snapshot) × IsSnapshot v r title need word s × RendersShared v r new title s answer (html v.history s.upto title v.markup))
+    × AnswersSeen title answer
+    (found old.hold_off s.floor (max s.template s.message) (moment r v) (ask_of v need) s.main s.interim))
+    ⊎ ((s : Snapshot) × IsSnapshot v r title need word s
+    × RendersShared v r new title s answer (html v.history s.upto title v.markup))
 
 abbrev pub DoesShared : (v with_all : World) → Region → (old new : CacheMap Bytes) → List Job
     → List Answer → Type 0

@@ -6,7 +6,8 @@ ghost use Rattle.wiki_model.specs.Generator.{MakesScripts};
 ghost use Rattle.wiki_model.specs.Makers.{CachedSourcesWereStored};
 ghost use Rattle.wiki_model.specs.Laws.{MissingRoundPagesArePromised, LooksAreAllowed, MomentsKeepRows, KnownPositionsAreFound, RoundsChangeEvents, CommitsAppend, CommitsArePurgedPromptly, SharedRoundsStand, OpeningsHaveRows, EntriesKeepRows, HearingKeepsRows, SweepingKeepsRows, NeedsAreReached, PagesArePromised, MissingPagesArePromised, FloorsAreGiven, RoundPagesArePromised, RunsStayConsistent, RunsOnlyGrow, EntriesKeepHistories, RevisionsAreCounted, UndecidedEditsAreNext, PagesOfPrefixesStay, PurgesAreOfTheirTitle, EmptyCachesStand, GrowthKeepsCaches, PurgesKeepCaches, PutsKeepCaches, StoresKeepCaches, RoundsKeepCaches, OneWorkerRoundsStand, LooksGoOn, HitsAreNotStale, HitsAreSound, InterimAnswersAreSound, StoredPagesAreSound, MissingPagesAreSound, WholeValuesAreTrue, LaggedValuesAreTrue, NotesAreAllowed, NeedsReachOwnEdits, SnapshotsReachTheirNeed, ChoicesAreOne, MomentsKeepPositions, EntriesKeepPositions, HearingKeepsPositions, SharedHitsAreSound, SharedInterimAnswersAreSound, SharedNotesAreAllowed};
 
-/// Every page that a step of a run answers is as promised to the view that the step names: the page of its prefix, with what its session may not miss as it stood at its step `wait`, and no stale hit.
+/// Every page that a step of a run answers is as promised to the view that the step names: the page of its prefix, with
+/// what its session may not miss as it stood at its step `wait`, and no stale hit.
 pub fn pages_are_promised()
     ensures { PagesArePromised }
 {}
@@ -71,7 +72,8 @@ pub fn purges_are_of_their_title()
     ensures { PurgesAreOfTheirTitle }
 {}
 
-/// Each commit of a run has a purge that it followed within the commit delay: the one that it names, or the second one of a late commit.
+/// Each commit of a run has a purge that it followed within the commit delay: the one that it names, or the second one
+/// of a late commit.
 pub fn commits_are_purged_promptly()
     ensures { CommitsArePurgedPromptly }
 {}
@@ -91,7 +93,8 @@ pub fn purges_keep_caches()
     ensures { PurgesKeepCaches }
 {}
 
-/// What a cache stands for is kept by a put of a true value with its store, whatever the put answers, also that it found no memory.
+/// What a cache stands for is kept by a put of a true value with its store, whatever the put answers, also that it
+/// found no memory.
 pub fn puts_keep_caches()
     ensures { PutsKeepCaches }
 {}
@@ -116,7 +119,8 @@ pub fn looks_are_allowed()
     ensures { LooksAreAllowed }
 {}
 
-/// Whatever a look of a waited view finds in a cache that stands for its run, the run goes on by it and the cache stands on.
+/// Whatever a look of a waited view finds in a cache that stands for its run, the run goes on by it and the cache
+/// stands on.
 pub fn looks_go_on()
     ensures { LooksGoOn }
 {}
@@ -246,7 +250,8 @@ pub fn shared_notes_are_allowed()
     ensures { SharedNotesAreAllowed }
 {}
 
-/// A round of several workers whose jobs answer what their seats may is allowed, and the cache that is given back stands for the world after it.
+/// A round of several workers whose jobs answer what their seats may is allowed, and the cache that is given back
+/// stands for the world after it.
 pub fn shared_rounds_stand()
     ensures { SharedRoundsStand }
 {}
@@ -261,7 +266,8 @@ pub fn views_are_answered()
     ensures { ViewsAreAnswered }
 {}
 
-/// A whole edit ends with one answer: what the history says of it, out of memory, or a fault of the keeper, whose count then rose.
+/// A whole edit ends with one answer: what the history says of it, out of memory, or a fault of the keeper, whose count
+/// then rose.
 pub fn edits_are_answered()
     ensures { EditsAreAnswered }
 {}

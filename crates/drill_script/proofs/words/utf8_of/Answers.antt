@@ -1,6 +1,6 @@
 use Rattle.std.proofs.Common.{Some, refl, ap, sym}
 use Rattle.std.proofs.lemmas.Str.{is_utf8-from_IsUtf8}
-use Rattle.drill_script.proofs.Numbers.{not_utf8}
+use Rattle.farm_base.proofs.Pieces.{not_utf8}
 use Rattle.drill_script.proofs.words.utf8_of.Goals as goal
 
 pub returns-in-Ok : goal.returns-in-Ok

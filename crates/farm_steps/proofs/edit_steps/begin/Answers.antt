@@ -13,7 +13,7 @@ returns g c =
     let old = c.args.requests.now.entries in
     let new = c.end_begin.new.requests.entries in
     let begins = c.begin-begun.ensures.begins in
-    subst (λ (o : Option EditAsk). BeginsTo cache_of (g.K.Keeper.content c.args.keeper.now) (g.K.Keeper.content c.begin-begun.new.keeper) (g.K.Keeper.faults c.args.keeper.now) (g.K.Keeper.faults c.begin-begun.new.keeper) c.args.home.now c.end_begin.new.home c.args.ledger.now c.end_begin.new.ledger c.args.now c.args.delay c.args.id old new said o)
+    subst (λ (o : Option EditAsk). BeginsTo cache_of (g.K.Keeper.content c.args.keeper.now) (g.K.Keeper.content c.begin-begun.new.keeper) (g.K.Keeper.faults c.args.keeper.now) (g.K.Keeper.faults c.begin-begun.new.keeper) c.args.home.now c.end_begin.new.home c.args.ledger.now c.end_begin.new.ledger c.args.term.now c.args.term.delay c.args.id old new said o)
     (sym c.in-Some.is ∙ c.take_arrived_edit.ensures.value)
     (record {
       result = c.begin-begun.result;
@@ -21,6 +21,6 @@ returns g c =
       mid = c.begin-begun.new.ledger;
       positions = begins.after;
       begins = begins.changes;
-      ends = ends_twice cache_of _ c.end_begin.new.home c.begin-begun.new.ledger c.end_begin.new.ledger c.args.now c.args.id old c.take_arrived_edit.new.requests.entries new said c.begin-begun.result c.in-Some.ensures.taken
-          (subst (λ (h : RegionParts g.row.S.Denot). EndsBegin cache_of h c.end_begin.new.home c.begin-begun.new.ledger c.end_begin.new.ledger c.args.now c.args.id c.take_arrived_edit.new.requests.entries new said c.begin-begun.result) begins.rest c.end_begin.ensures);
+      ends = ends_twice cache_of _ c.end_begin.new.home c.begin-begun.new.ledger c.end_begin.new.ledger c.args.term.now c.args.id old c.take_arrived_edit.new.requests.entries new said c.begin-begun.result c.in-Some.ensures.taken
+          (subst (λ (h : RegionParts g.row.S.Denot). EndsBegin cache_of h c.end_begin.new.home c.begin-begun.new.ledger c.end_begin.new.ledger c.args.term.now c.args.id c.take_arrived_edit.new.requests.entries new said c.begin-begun.result) begins.rest c.end_begin.ensures);
     })

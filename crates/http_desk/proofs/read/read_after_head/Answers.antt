@@ -1,5 +1,5 @@
 use Rattle.std.proofs.Common.{ap, ◌∙◌, take}
-use Rattle.http_desk.specs.AsModel.{fault_of}
+use Rattle.http_reply.specs.AsModel.{fault_of}
 use Rattle.http_desk.proofs.Inputs.{fault_read}
 use Rattle.http_desk.proofs.read.read_after_head.Goals as goal
 

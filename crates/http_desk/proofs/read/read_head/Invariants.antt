@@ -1,5 +1,6 @@
 use Rattle.std.proofs.Common.{◌≡◌, ◌≤◌, ◌-◌, length}
-use Rattle.http_desk.specs.Incoming.{Grows, head_limit}
+use Rattle.wiki_model.specs.Limits.{head_max}
+use Rattle.http_desk.specs.Incoming.{Grows}
 use Rattle.http_desk.proofs.read.read_head.Given as goal
 
 abbrev pub invariant-reads : goal.invariant-reads
@@ -10,4 +11,4 @@ invariant-reads g l = record {
 }
 
 abbrev pub decreases-reads : goal.decreases-reads
-decreases-reads g l = head_limit - length l.kept.items
+decreases-reads g l = head_max - length l.kept.items

@@ -1,6 +1,6 @@
 use Rattle.std.proofs.Common.{Some, refl, ap}
 use Rattle.std.proofs.lemmas.Str.{is_utf8-from_IsUtf8}
-use Rattle.wiki_layout.proofs.NotUtf8.{not_utf8}
+use Rattle.farm_base.proofs.Pieces.{not_utf8}
 use Rattle.wiki_layout.proofs.layout.text_in.Goals as goal
 
 pub returns-in-Ok : goal.returns-in-Ok

@@ -1,5 +1,0 @@
-use Rattle.http_desk.proofs.WindowLaws.{malformed_lines_are_seen}
-use Rattle.http_desk.proofs.laws.malformed_lines_are_seen.Goals as goal
-
-pub returns : goal.returns
-returns c = malformed_lines_are_seen

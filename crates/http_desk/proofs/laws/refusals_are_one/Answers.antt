@@ -1,5 +1,0 @@
-use Rattle.http_desk.proofs.WindowLaws.{refusals_are_one}
-use Rattle.http_desk.proofs.laws.refusals_are_one.Goals as goal
-
-pub returns : goal.returns
-returns c = refusals_are_one

@@ -1,0 +1,5 @@
+pub mod Windows
+pub mod Counts
+pub mod Heads
+pub mod HeadsInWindows
+pub mod WindowLaws
