@@ -309,7 +309,8 @@ const REFUSED: [&str; 5] = [
     "UPDATE revision SET base = -1 WHERE n = 1",
     "UPDATE revision SET title = 'A_b' WHERE n = 300",
     "DELETE FROM revision WHERE n = 1",
-    "INSERT INTO entry (n, stamp) VALUES (-9223372036854775808, 0); UPDATE revision SET n = -9223372036854775808 WHERE n = 7",
+    "INSERT INTO entry (n, stamp) VALUES (-9223372036854775808, 0);
+UPDATE revision SET n = -9223372036854775808 WHERE n = 7",
 ];
 
 fn stays_of_version_1(
