@@ -1,6 +1,6 @@
 // What is written: an entry by one transaction, so that it is there whole or not at all.
 use crate::questions::{TITLE_ROW, digits_text};
-use crate::rows::{stored, stored_stamp};
+use crate::rows::{number_at, stored, stored_stamp};
 use crate::table_fault::TableFault;
 use commit_feed::Entry;
 use sqlite::{Alter, Connection, Error, Transaction, params};
@@ -82,7 +82,8 @@ fn put_title<S: Alter>(
         add_title(tx, n, title)?;
         return Ok(n);
     }
-    Ok(tx.query_row(TITLE_ROW, params![title])?.get(0)?)
+    let row = tx.query_row(TITLE_ROW, params![title])?;
+    stored(number_at(&row, 0)?)
 }
 
 fn add_title<S: Alter>(tx: &mut Transaction<'_, S>, n: i64, title: &str) -> Result<usize, Error> {

@@ -74,7 +74,7 @@ pub(crate) fn latest<S: Alter>(
     let Some(row) = first_row(conn, TITLE_ROW, params![title.text()])? else {
         return Ok(None);
     };
-    let title: i64 = row.get(0)?;
+    let title = stored(number_at(&row, 0)?)?;
     let Some(row) = last_change(conn, title)? else {
         return Ok(None);
     };
