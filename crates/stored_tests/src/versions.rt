@@ -270,20 +270,24 @@ fn tables_named(conn: &mut Connection<MemStore>, name: &str) -> Result<u64, Fail
 fn many_commits(alloc: Global, change: &str) -> Result<Connection<MemStore>, Fail> {
     let mut conn = version_1(alloc, "")?;
     for n in 1..301i64 {
-        put_commit(alloc, &mut conn, n)?;
+        let token = format!(in alloc; "t{n}")?;
+        put_entry(&mut conn, n)?;
+        put_revision(&mut conn, n, token.as_str())?;
     }
     conn.execute_batch(change)?;
     Ok(conn)
 }
 
-fn put_commit(alloc: Global, conn: &mut Connection<MemStore>, n: i64) -> Result<(), Fail> {
-    let rows = format!(in alloc;
-        "INSERT INTO entry (n, stamp) VALUES ({n}, {n});
-INSERT INTO revision (n, purge, title, revision, client, ix, token, base, body)
-  VALUES ({n}, 1, 'A', {n}, '00000000000000000000000000000001', {n}, 't{n}', 0, 'text {n}')"
-    )?;
-    conn.execute_batch(rows.as_str())?;
-    Ok(())
+fn put_entry(conn: &mut Connection<MemStore>, n: i64) -> Result<usize, Error> {
+    conn.execute("INSERT INTO entry (n, stamp) VALUES (?1, ?1)", params![n])
+}
+
+fn put_revision(conn: &mut Connection<MemStore>, n: i64, token: &str) -> Result<usize, Error> {
+    conn.execute(
+        "INSERT INTO revision (n, purge, title, revision, client, ix, token, base, body)
+            VALUES (?1, 1, 'A', ?1, '00000000000000000000000000000001', ?1, ?2, 0, 'text')",
+        params![n, token],
+    )
 }
 
 #[test]
