@@ -1,0 +1,178 @@
+-- A hosting as a whole: the farm that was opened stands for the run of the markup's turn, in which no message is there,
+-- and the visits go on with it to a run whose last world has what the keeper has.
+use Rattle.std.specs.Prelude.{ℕ, zero, suc, ◌≡◌, ◌⊎◌, ◌<◌, ◌≤◌, ◌+◌, ◌-◌, List, [], ◌∷◌, ◌++◌, length, map, reverse, Option, Some, None, IfSome, Result, Ok, Err, refl}
+use Rattle.std.proofs.Common.{arith, sym, ap, subst, ◌∙◌, inl, inr}
+use Rattle.std.proofs.lemmas.List.{length-map}
+use Rattle.farm_base.specs.Series.{Series, Gives}
+use Rattle.wiki_model.specs.declared.Readings.{Readings}
+use Rattle.wiki_model.specs.Bytes.{Bytes}
+use Rattle.wiki_model.specs.History.{Entry}
+use Rattle.wiki_model.specs.Cache.{CacheMap}
+use Rattle.wiki_model.specs.World.{World, Message}
+use Rattle.wiki_model.specs.Steps.{Rose}
+use Rattle.wiki_model.specs.Runs.{Turn, IsRun}
+use Rattle.farm_core.specs.FarmParts.{FarmParts}
+use Rattle.farm_core.specs.Agreement.{Agrees}
+use Rattle.farm_core.specs.Runs.{Stands}
+use Rattle.purge_relay.specs.AsModel.{row_message}
+use Rattle.wiki_layout.specs.Layout.{Plan, layout_of}
+use Rattle.wiki_serve.specs.Exchanges.{Heard, AreHeard}
+use Rattle.wiki_serve.specs.Services.{Held, numbers_from}
+use Rattle.wiki_serve.specs.Connections.{Conn}
+use Rattle.wiki_serve.specs.Turns.{Standing, StandsSent, unsent_of}
+use Rattle.wiki_host.specs.declared.host.HostEnd.{HostEnd}
+use Rattle.wiki_host.specs.declared.host.HostEnd.TheVariants as ended
+use Rattle.wiki_host.specs.Visits.{Visit, visit_turns, VisitsLead, DoorSeen, VisitedSoFar, HasVisited, GoesOnByVisits, IsEnough, EndsVisits, VisitsAll}
+use Rattle.wiki_host.specs.Opening.{KeeperSeen, keeper_seen, host_start, markup_turn, IsOpened, OpensPlan, OpensLayout}
+use Rattle.wiki_host.specs.Refusals.{RefusesHost, IsRefusal, IsReadOnce, breaks}
+use Rattle.wiki_host.specs.Hosting.{HostSeen, host_seen, IsRunOf, IsHostedRun, IsHosting, IsUntouched, IsOnlyRead, IsUnopened, EndsHost, ClosesVisits, HostsSome, Hosts}
+
+-- a farm that is closed leaves the run for which it stood to the keeper
+pub closes : {K S : Type 0} (content : K → Option (List Entry)) (faults : K → ℕ) (cache_of : S → CacheMap Bytes)
+    (farm : FarmParts K S) (sent : ℕ) (keeper : K) → keeper ≡ farm.keeper → (start : World) (turns : List Turn) (w : World)
+    → StandsSent content faults cache_of farm sent start turns w
+    → IsRunOf (keeper_seen (content keeper) (faults keeper)) start turns w
+closes content faults cache_of farm sent keeper same start turns w stands =
+    (stands.stands.run, ap content same ∙ stands.stands.agrees.history,
+      let counted = stands.stands.agrees.counted in
+      subst (λ k. w.faults ≤ faults k) (sym same) counted)
+
+module _ {A : Type 0} (seen : A → Conn) (pace : ℕ) where
+  -- a run for which the farm stands is another's as well
+  stands_as : (Stood Now Then : Standing) (a b : List ℕ) (visits : List (Visit A))
+      → ((start : World) (turns : List Turn) (w : World) → Now start turns w → Then start turns w)
+      → GoesOnByVisits seen pace Stood Now a b visits → GoesOnByVisits seen pace Stood Then a b visits
+  stands_as Stood Now Then a b visits as goes start turns v stood =
+      let (w, stands, does) = goes start turns v stood in
+      (w, as start (reverse (visit_turns visits) ++ turns) w stands, does)
+
+  visited_as : (da db : DoorSeen A) (ha hb : Heard) (a b : List ℕ) (Stood Now Then : Standing) (n : ℕ)
+      → ((start : World) (turns : List Turn) (w : World) → Now start turns w → Then start turns w)
+      → HasVisited seen pace da db ha hb a b Stood Now n → HasVisited seen pace da db ha hb a b Stood Then n
+  visited_as da db ha hb a b Stood Now Then n as has = record {
+    visits = has.visits;
+    number = has.number;
+    so_far = record {
+      talks = has.so_far.talks;
+      handed = has.so_far.handed;
+      faults = has.so_far.faults;
+      nones = has.so_far.nones;
+      heard = has.so_far.heard;
+      goes_on = stands_as Stood Now Then a b has.visits as has.so_far.goes_on;
+    };
+  }
+
+  -- the visits of an open farm, once it is closed
+  pub closes_visits : (wanted : ℕ) (da db : DoorSeen A) (ha hb : Heard) (a b : List ℕ) (Stood Now : Standing)
+      (keeper : KeeperSeen) (end : HostEnd) (count : ℕ)
+      → ((start : World) (turns : List Turn) (w : World) → Now start turns w → IsRunOf keeper start turns w)
+      → HasVisited seen pace da db ha hb a b Stood Now count → EndsHost wanted da db count end
+      → ClosesVisits seen pace wanted da db ha hb a Stood keeper end
+  closes_visits wanted da db ha hb a b Stood Now keeper end count as has ends = record {
+    count = count;
+    unsent = b;
+    visited = visited_as da db ha hb a b Stood Now (IsRunOf keeper) count as has;
+    ends = ends;
+  }
+
+-- a farm that agrees with a world without messages has none to send
+none_unsent : {K S : Type 0} (farm : FarmParts K S) (sent : ℕ) (w : World) → map row_message farm.ledger.rows ≡ w.messages
+    → w.messages ≡ [] → sent ≡ 0 → unsent_of farm sent ≡ []
+none_unsent farm sent w messages none zero_sent =
+    let long = length-map row_message farm.ledger.rows in
+    let same = ap (λ (l : List Message). length l) (messages ∙ none) in
+    let empty : length farm.ledger.rows - sent ≡ 0 = omega (arith, long, same, zero_sent) in
+    ap (λ n. numbers_from (sent + 1) n) empty
+
+module _ {A : Type 0} (seen : A → Conn) (wanted : ℕ) (layout : Bytes) (da db : DoorSeen A) (before middle after : Heard)
+    (kept_before kept_after : KeeperSeen) where
+  clocked : Heard
+  clocked = record before { clock = middle.clock }
+
+  hosted_run : {K S : Type 0} (content : K → Option (List Entry)) (faults : K → ℕ) (cache_of : S → CacheMap Bytes)
+      (plan : Plan) (began : ℕ) (first : Readings) (farm : FarmParts K S) (sent : ℕ) (unsent : List ℕ)
+      (visits : List (Visit A))
+      → IsOpened content faults cache_of plan (keeper_seen kept_before.history began) first farm sent
+      → GoesOnByVisits seen plan.pace (StandsSent content faults cache_of farm sent) (IsRunOf kept_after)
+          (unsent_of farm sent) unsent visits
+      → (history : Option (List Entry)) → kept_before.history ≡ history
+      → IfSome history (λ h. IsHostedRun seen plan.pace (host_start plan h began first) first kept_after visits)
+  hosted_run content faults cache_of plan began first farm sent unsent visits opened goes None e = tt
+  hosted_run content faults cache_of plan began first farm sent unsent visits opened goes (Some h) e =
+      let (v, none, stands) = opened.stands h e in
+      let zero_sent = opened.none_sent in
+      let within : sent ≤ length v.messages = omega (arith, zero_sent) in
+      let (w, run, leads) = goes (host_start plan h began first) (markup_turn first ∷ []) v
+            (record { stands = stands; within = within }) in
+      record {
+        opened = v;
+        last = record { world = w; unsent = unsent };
+        marked = stands.run;
+        leads = subst (λ (l : List ℕ). VisitsLead seen plan.pace visits (record { world = v; unsent = l }) (record { world = w; unsent = unsent }))
+            (none_unsent farm sent v stands.agrees.messages none zero_sent) leads;
+        run = run.0;
+        history = run.1.0;
+        faults = run.1.1;
+      }
+
+  pub hosting : {K S : Type 0} (content : K → Option (List Entry)) (faults : K → ℕ) (cache_of : S → CacheMap Bytes)
+      (farm : FarmParts K S) (sent pace : ℕ) (end : HostEnd)
+      → OpensLayout content faults cache_of layout kept_before before.clock middle.clock farm sent
+      → middle ≡ clocked → pace ≡ farm.plan.pace
+      → ClosesVisits seen pace wanted da db middle after (unsent_of farm sent)
+          (StandsSent content faults cache_of farm sent) kept_after end
+      → Hosts seen wanted layout (host_seen da before kept_before) (host_seen db after kept_after) end
+  hosting content faults cache_of farm sent pace end opens same is_pace closes = ends end closes.ends
+    where
+      plan : Plan
+      plan = opens.plan
+
+      visited : HasVisited seen plan.pace da db middle after (unsent_of farm sent) closes.unsent (StandsSent content faults cache_of farm sent) (IsRunOf kept_after) closes.count
+      visited = subst (λ (p : ℕ). HasVisited seen p da db middle after (unsent_of farm sent) closes.unsent (StandsSent content faults cache_of farm sent) (IsRunOf kept_after) closes.count)
+          (is_pace ∙ opens.opens.opened.pace) closes.visited
+
+      is_hosting : IsHosting seen layout (host_seen da before kept_before) (host_seen db after kept_after) visited.visits
+      is_hosting = record {
+        plan = plan;
+        is_plan = opens.is_plan;
+        first = opens.opens.first;
+        coming = middle.clock;
+        opened = opens.opens.reads;
+        heard = subst (λ (h : Heard). AreHeard h after _) same visited.so_far.heard;
+        talks = visited.so_far.talks;
+        handed = visited.so_far.handed;
+        began = opens.began;
+        since = opens.since;
+        run = hosted_run content faults cache_of plan opens.began opens.opens.first farm sent closes.unsent visited.visits opens.opens.opened visited.so_far.goes_on kept_before.history refl;
+      }
+
+      some : (e : HostEnd) → EndsHost wanted da db closes.count e → HostsSome seen layout (host_seen da before kept_before) (host_seen db after kept_after) (λ count. EndsHost wanted da db count e)
+      some e how = (visited.visits, is_hosting, subst (λ (n : ℕ). EndsHost wanted da db n e) (sym visited.number) how)
+
+      ends : (e : HostEnd) → EndsHost wanted da db closes.count e → Hosts seen wanted layout (host_seen da before kept_before) (host_seen db after kept_after) e
+      ends (ended.Served n) how = some (ended.Served n) how
+      ends ended.DoorFault how = some ended.DoorFault how
+      ends (ended.BadLayout rule) how = absurd how
+      ends ended.StoreFault how = absurd how
+      ends ended.Memory how = absurd how
+
+  -- what was refused before the first connection
+  pub refused : (end : HostEnd) → RefusesHost (breaks layout) kept_before kept_after before.clock middle.clock end
+      → middle ≡ clocked
+      → Hosts seen wanted layout (host_seen da before kept_before) (host_seen da middle kept_after) end
+  refused end refuses same = ends end refuses.why
+    where
+      untouched : middle.clock ≡ before.clock → IsUntouched (host_seen da before kept_before) (host_seen da middle kept_after)
+      untouched clock = record { door = refl; heard = same ∙ ap (λ (c : Option (Series Readings)). let h : Heard = record before { clock = c } in h) clock; history = refuses.history }
+
+      unopened : IsReadOnce before.clock middle.clock → IsUnopened (host_seen da before kept_before) (host_seen da middle kept_after)
+      unopened (inl clock) = inl (untouched clock)
+      unopened (inr (first, gives)) = inr (record { door = refl; first = first; clock = gives; heard = same; history = refuses.history })
+
+      ends : (e : HostEnd) → IsRefusal (breaks layout) (Rose kept_before.faults kept_after.faults) before.clock middle.clock e
+          → Hosts seen wanted layout (host_seen da before kept_before) (host_seen da middle kept_after) e
+      ends (ended.BadLayout rule) (broken, clock) = (broken, untouched clock)
+      ends ended.StoreFault (rose, once) = (rose, unopened once)
+      ends ended.Memory once = unopened once
+      ends (ended.Served n) no = absurd no
+      ends ended.DoorFault no = absurd no
