@@ -37,6 +37,7 @@ fn end(start: u64, length: u64) -> u64 {
 }
 
 impl PlainCache {
+    /// An empty cache, which has held nothing off.
     pub fn new(alloc: Global) -> PlainCache {
         PlainCache {
             keys: Vec::new(alloc),
@@ -72,6 +73,7 @@ impl PlainCache {
         self.check != 0 && now <= self.check
     }
 
+    /// Stores a page of so many entries at this moment, as the key's last use, and answers where it is.
     pub fn put(
         &mut self,
         title: u32,
@@ -102,6 +104,7 @@ impl PlainCache {
         Ok(answer)
     }
 
+    /// Drops the title's main page, and holds the title off.
     pub fn purge(&mut self, title: u32, now: u64) -> Result<(), AllocError> {
         let mut key = self.claim(title, now);
         key.floor = key.floor.max(end(now, HOLD_OFF));
@@ -110,10 +113,12 @@ impl PlainCache {
         Ok(())
     }
 
+    /// Holds all titles off, as a purge of a shared title does.
     pub fn touch(&mut self, now: u64) {
         self.check = end(now, HOLD_OFF);
     }
 
+    /// What is there for a page of at least so many entries; looking is no use of a key.
     pub fn look(&self, title: u32, now: u64, need: u64) -> Seen {
         let key = self.find(title);
         let floor = key.map_or(0, |key| key.floor).max(self.base);

@@ -55,6 +55,7 @@ impl<C: RegionStore<u64> + Drop> Timed<C> {
         }
     }
 
+    /// The moment at which the next call is made.
     pub fn now(&self) -> Moment {
         self.now
     }
@@ -75,6 +76,7 @@ impl<C: RegionStore<u64> + Drop> Timed<C> {
         shown(&self.store.look(title, self.now, &ask))
     }
 
+    /// Stores a page of so many entries now, and answers where it is.
     pub fn put(
         &mut self,
         alloc: Global,
@@ -86,16 +88,19 @@ impl<C: RegionStore<u64> + Drop> Timed<C> {
         Ok(self.store.put(title, value))
     }
 
+    /// Purges the title now.
     pub fn purge(&mut self, title: &Title) {
         self.store.purge(title, self.now);
     }
 
+    /// Takes a purge of a title of this class now; all pages share titles of it.
     pub fn touch(&mut self, class: Class)
         requires { class ≢ Class.Plain }
     {
         self.store.touch(class, self.now);
     }
 
+    /// For how many milliseconds a purge holds its title off.
     pub fn hold_off(&self) -> u64 {
         self.store.known();
         self.store.hold_off()

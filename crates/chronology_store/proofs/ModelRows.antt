@@ -9,7 +9,7 @@ use Rattle.wiki_model.specs.Positions as model
 use Rattle.wiki_model.specs.Positions.{TellsRow, SweepsRows, later_row, finds}
 use Rattle.chronology_store.specs.declared.position_row.HeldPosition.{HeldPosition}
 use Rattle.chronology_store.specs.declared.position_row.PositionRow.{PositionRow}
-use Rattle.chronology_store.specs.PositionRow.{with_told, with_reserved, later, unless_past, swept}
+use Rattle.chronology_store.specs.PositionRow.{with_told, with_reserved, later, unless_past}
 use Rattle.chronology_store.specs.ChronologyStore.{Positions, row_of, find_in, Changes, Sweeps}
 use Rattle.chronology_store.specs.AsModel.{held_of, rows_in}
 

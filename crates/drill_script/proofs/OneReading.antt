@@ -1,10 +1,10 @@
 -- The same bytes are at most one script, and a script has no faulty line. Two readings cut the same first line, and a line that is spelled and may stand
 -- there is what reading the line gives, so it is the same line; and so on with the rest.
-use Rattle.std.proofs.Common.{◌≡◌, ◌≢◌, ℕ, ◌+◌, ◌≤◌, List, [], ◌∷◌, ◌++◌, length, refl, sym, ap, subst, ◌∙◌, arith, append_assoc, length-append}
+use Rattle.std.proofs.Common.{◌≡◌, ◌≢◌, ◌+◌, ◌≤◌, List, [], ◌∷◌, ◌++◌, length, refl, sym, ap, subst, ◌∙◌, arith, append_assoc, length-append}
 use Rattle.std.specs.Prelude.{All, IsUtf8}
 use Rattle.std.proofs.lemmas.Option.{same_Some}
 use Rattle.wiki_model.specs.Bytes.{Bytes}
-use Rattle.wiki_model.specs.Script.{Line, Spells, AreLines, MayFollow, IsScript, IsFirstFault}
+use Rattle.wiki_model.specs.Script.{Line, Spells, AreLines, MayFollow, IsScript}
 use Rattle.drill_script.specs.Laws.{ScriptsAreOne, ScriptsHaveNoFault}
 use Rattle.drill_script.specs.ScriptState.{state_after, noted, IsStateOf, IsNextLine}
 use Rattle.drill_script.specs.declared.script_state.ScriptState.{ScriptState}

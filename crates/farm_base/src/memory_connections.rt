@@ -31,7 +31,13 @@ impl Model for MemConn {
 
     ghost Value = { Talker };
 
-    ghost view = { λ c. record { input = c.input; output = c.output; peer = c.peer; piece = c.piece; place = c.place } };
+    ghost view = { λ c. record {
+      input = c.input;
+      output = c.output;
+      peer = c.peer;
+      piece = c.piece;
+      place = c.place;
+    } };
 
     ghost invariant = { λ c. 0 < c.piece };
 }

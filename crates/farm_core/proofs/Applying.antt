@@ -1,11 +1,11 @@
 -- Applying entries goes on with every run.
 use Rattle.std.proofs.Common.{◌≡◌, ℕ, zero, suc, ◌+◌, ◌≤◌, min, List, [], ◌∷◌, length, map, take, Option, Some, None, IfSome, Result, Ok, Err, refl, sym, ap, subst, ◌∙◌, arith, append-nil}
-use Rattle.std.specs.Prelude.{option_map, slice_get, slice_set, unwrap_or, IfOk, OnOk, IsErrOf}
+use Rattle.std.specs.Prelude.{option_map, slice_get, slice_set, unwrap_or, OnOk, IsErrOf}
 use Rattle.std.proofs.lemmas.Option.{slice_get-map}
 use Rattle.wiki_model.specs.declared.Region.{Region}
 use Rattle.wiki_model.specs.declared.Region.TheVariants.{Home, West}
 use Rattle.wiki_model.specs.Bytes.{Bytes}
-use Rattle.wiki_model.specs.History.{Entry, entry_at}
+use Rattle.wiki_model.specs.History.{Entry}
 use Rattle.wiki_model.specs.Cache.{CacheMap}
 use Rattle.wiki_model.specs.World.{World, Setting, site, request_at, with_applied, applied_number}
 use Rattle.wiki_model.specs.Answers.{Answer, NoMemory, StoreFault}

@@ -5,7 +5,7 @@ use Rattle.wiki_model.specs.Bytes.{Bytes}
 use Rattle.wiki_model.specs.History.{Entry, Edit}
 use Rattle.wiki_model.specs.Cache.{CacheMap}
 use Rattle.wiki_model.specs.World as world
-use Rattle.wiki_model.specs.World.{World, Setting, site, moment, request_at, without_request, message_at}
+use Rattle.wiki_model.specs.World.{World, moment, request_at, without_request, message_at}
 use Rattle.wiki_model.specs.Answers.{Answer, NotOpen, NoMemory, StoreFault, EditSaved, Conflict, TokenUsed, edit_answer}
 use Rattle.wiki_model.specs.Steps as steps
 use Rattle.wiki_model.specs.Steps.{Step, Decided, Begins, begun, next_message}

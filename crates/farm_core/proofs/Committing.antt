@@ -8,13 +8,13 @@ use Rattle.wiki_model.specs.Titles.{Title}
 use Rattle.wiki_model.specs.History.{Entry, Edit, Commit, Beat, Committed, commit_for}
 use Rattle.wiki_model.specs.Cache.{CacheMap}
 use Rattle.wiki_model.specs.World as world
-use Rattle.wiki_model.specs.World.{World, Setting, Site, Event, site, moment, request_at, with_entry, hears, without_request, with_message, message_at}
+use Rattle.wiki_model.specs.World.{World, Setting, site, moment, request_at, without_request, with_message}
 use Rattle.wiki_model.specs.World.Event.{Received}
 use Rattle.wiki_model.specs.HoldOff.{IsIssued}
 use Rattle.wiki_model.specs.Answers as model
 use Rattle.wiki_model.specs.Answers.{Answer, NotOpen, NoMemory, StoreFault, EditSaved, Conflict, TokenUsed, edit_answer, saved}
 use Rattle.wiki_model.specs.Steps as steps
-use Rattle.wiki_model.specs.Steps.{Step, Decided, Commits, appended, appended_if, next_commit, next_entry, next_message, purged_again, position_of, is_late, Rose}
+use Rattle.wiki_model.specs.Steps.{Step, Decided, Commits, appended, appended_if, next_commit, next_entry, next_message, position_of, is_late}
 use Rattle.wiki_model.specs.Changes.{IsAppended}
 use Rattle.wiki_model.proofs.PartLaws.{commit-appends}
 use Rattle.wiki_model.specs.Runs.{One, with_faults, CountsFaults}
@@ -47,7 +47,7 @@ use Rattle.farm_steps.specs.RelaySteps.{TakesRow}
 use Rattle.region_state.specs.RegionState.{with_positions}
 use Rattle.farm_steps.specs.EditSteps.{outcome_answer, second_purge_in, ReceivesSecond, CommitsTo, LeavesAll}
 use Rattle.farm_core.specs.Agreement as agreed
-use Rattle.farm_core.specs.Agreement.{Agrees, RegionStands, last_beat_in}
+use Rattle.farm_core.specs.Agreement.{Agrees, last_beat_in}
 use Rattle.farm_core.specs.Runs.{GoesFrom, LeadsTo}
 use Rattle.farm_core.proofs.Following.{Follows, agree-later}
 use Rattle.farm_core.proofs.Standing.{rows_moments, site_grown}

@@ -7,7 +7,7 @@ use Rattle.wiki_model.specs.Titles.{Title}
 use Rattle.wiki_model.specs.History.{Entry, stamp_at, page_text, commits_on}
 use Rattle.wiki_model.specs.Html.{html}
 use Rattle.wiki_model.specs.World as world
-use Rattle.wiki_model.specs.World.{World, Setting, Request, message_at}
+use Rattle.wiki_model.specs.World.{World, Setting, Request}
 use Rattle.wiki_model.specs.HoldOff.{IsIssued}
 use Rattle.wiki_model.proofs.HistoryGrowth.{html-grows, stamp-grows}
 use Rattle.replica_apply.specs.declared.snapshot.Snapshot.{Snapshot}

@@ -9,7 +9,7 @@ use Rattle.wiki_model.specs.Titles.{Title}
 use Rattle.wiki_model.specs.History.{Entry}
 use Rattle.wiki_model.specs.Cache.{CacheMap}
 use Rattle.wiki_model.specs.World as world
-use Rattle.wiki_model.specs.World.{World, Setting, Site, Event, Job, site, moment, message_at, request_at, at_readings, receives, with_event}
+use Rattle.wiki_model.specs.World.{World, Setting, Event, Job, site, moment, message_at, request_at, at_readings, receives, with_event}
 use Rattle.wiki_model.specs.World.Job.{ViewJob, ReceiptJob}
 use Rattle.wiki_model.specs.World.Event.{Received, Rounded}
 use Rattle.wiki_model.specs.Answers.{Answer}

@@ -5,7 +5,7 @@ use Rattle.std.proofs.lemmas.List.{map-append}
 use Rattle.wiki_model.specs.declared.Region.{Region}
 use Rattle.wiki_model.specs.declared.Region.TheVariants.{Home, West}
 use Rattle.wiki_model.specs.World as world
-use Rattle.wiki_model.specs.World.{World, Event, site, moment, with_message}
+use Rattle.wiki_model.specs.World.{World, site, moment, with_message}
 use Rattle.wiki_model.specs.World.Event.{Received}
 use Rattle.wiki_model.specs.Steps.{purged, next_message}
 use Rattle.purge_relay.specs.declared.message.Body.{Body}

@@ -1,7 +1,7 @@
 -- What a region's store of positions says is what the world knows.
 use Rattle.std.proofs.Common.{◌≡◌, ◌+◌, ◌<◌, Bool, true, false, cond, Option, Some, None, refl, sym, ap, ◌∙◌, arith, nat_eq}
 use Rattle.std.proofs.lemmas.Bool.Decides.{nat_tests}
-use Rattle.std.specs.Prelude.{unwrap_or, option_map, filter, nat_lt}
+use Rattle.std.specs.Prelude.{unwrap_or, option_map, nat_lt}
 use Rattle.wiki_model.specs.declared.Region.{Region}
 use Rattle.wiki_model.specs.Bytes.{last_of}
 use Rattle.wiki_model.specs.Titles.{Client}

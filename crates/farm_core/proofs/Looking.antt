@@ -11,7 +11,7 @@ use Rattle.wiki_model.specs.World.{World, Floor, moment, request_at, with_reques
 use Rattle.wiki_model.specs.Answers.{Answer, NotOpen, NoMemory}
 use Rattle.wiki_model.specs.Steps.{Step, Looks as MayLook}
 use Rattle.wiki_model.specs.Steps as steps
-use Rattle.wiki_model.specs.Runs.{Reply, One, with_faults}
+use Rattle.wiki_model.specs.Runs.{One, with_faults}
 use Rattle.wiki_model.specs.Caches.{CacheStands}
 use Rattle.wiki_model.proofs.MissLaws.{look-allowed}
 use Rattle.region_state.specs.declared.open_view.OpenView.{OpenView}

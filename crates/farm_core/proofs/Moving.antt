@@ -8,7 +8,7 @@ use Rattle.wiki_model.specs.Bytes.{Bytes}
 use Rattle.wiki_model.specs.History.{Entry}
 use Rattle.wiki_model.specs.Cache.{CacheMap, Found, Hit, Interim, Missed, look}
 use Rattle.wiki_model.specs.Answers as model
-use Rattle.wiki_model.specs.Answers.{Answer, NotOpen, NoMemory, StoreFault, EditSaved, Conflict, TokenUsed}
+use Rattle.wiki_model.specs.Answers.{Answer, NoMemory, Conflict}
 use Rattle.farm_base.specs.declared.memory.Memory.{Memory}
 use Rattle.purge_relay.specs.Ledger.{LedgerState}
 use Rattle.edit_core.specs.declared.edit_ask.EditAsk.{EditAsk}

@@ -1,6 +1,5 @@
 -- A farm that is opened stands for the empty run.
 use Rattle.std.proofs.Common.{◌≡◌, ℕ, zero, suc, ◌≤◌, max, List, [], ◌∷◌, length, map, take, drop, Option, Some, None, IfSome, refl, sym, ap, subst, ◌∙◌, arith}
-use Rattle.std.specs.Prelude.{option_map, slice_get, filter, IsSome}
 use Rattle.wiki_model.specs.History.{Entry}
 use Rattle.wiki_model.specs.Positions.{young_commits}
 use Rattle.replica_apply.specs.Replica.{IsPrefix}

@@ -6,7 +6,7 @@ use Rattle.std.specs.Ordering.{nat_cmp, eq_by_cmp}
 use Rattle.std.proofs.lemmas.Cmp.{nat_cmp_total}
 use Rattle.std.proofs.lemmas.Bool.Decides.{nat_tests}
 use Rattle.wiki_model.specs.World as world
-use Rattle.wiki_model.specs.World.{World, Request, OpenView, Floor, Snapshot, request_at}
+use Rattle.wiki_model.specs.World.{World, Request, Floor, request_at}
 use Rattle.wiki_model.specs.History.{Edit}
 use Rattle.wiki_model.specs.Steps as steps
 use Rattle.edit_core.specs.declared.edit_ask.EditAsk.{EditAsk}

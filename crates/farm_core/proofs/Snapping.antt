@@ -10,7 +10,7 @@ use Rattle.wiki_model.specs.History.{Entry, Edit, stamp_at}
 use Rattle.wiki_model.specs.Balance.{Row, IsChoice}
 use Rattle.wiki_model.specs.Cache.{CacheMap}
 use Rattle.wiki_model.specs.World as world
-use Rattle.wiki_model.specs.World.{World, Setting, site, moment, weights, request_at, with_request, without_request, Floor}
+use Rattle.wiki_model.specs.World.{World, moment, weights, request_at, with_request, without_request, Floor}
 use Rattle.wiki_model.specs.Answers as model
 use Rattle.wiki_model.specs.Answers.{Answer, NotOpen, NoMemory, ChosenReplica, IsPending}
 use Rattle.wiki_model.specs.Steps as steps

@@ -1,5 +1,5 @@
 -- The step store goes on with every run.
-use Rattle.std.proofs.Common.{◌≡◌, ℕ, ◌+◌, ◌-◌, ◌≤◌, Bool, true, false, List, [], Option, Some, None, IfSome, ◌<◌, append-nil, refl, sym, ap, subst, ◌∙◌, arith}
+use Rattle.std.proofs.Common.{◌≡◌, ℕ, ◌-◌, ◌≤◌, Bool, true, false, List, [], Option, Some, None, IfSome, append-nil, refl, sym, ap, subst, ◌∙◌, arith}
 use Rattle.std.specs.Prelude.{option_map}
 use Rattle.wiki_model.specs.declared.Region.{Region}
 use Rattle.wiki_model.specs.declared.Region.TheVariants.{Home, West}
@@ -10,26 +10,23 @@ use Rattle.wiki_model.specs.declared.Put.TheVariants as put
 use Rattle.wiki_model.specs.declared.SetRule.{SetRule}
 use Rattle.wiki_model.specs.declared.SetRule.TheVariants as rule
 use Rattle.wiki_model.specs.Bytes.{Bytes}
-use Rattle.wiki_model.specs.Titles.{class_of}
-use Rattle.wiki_model.specs.History.{Entry, stamp_at, is_shared_title}
+use Rattle.wiki_model.specs.History.{Entry, stamp_at}
 use Rattle.wiki_model.specs.Html.{html}
-use Rattle.wiki_model.specs.Limits.{hold_off}
-use Rattle.wiki_model.specs.HoldOff.{HasReceipt}
 use Rattle.wiki_model.specs.Changes.{IsEvent}
-use Rattle.wiki_model.specs.declared.Class.{Class}
 use Rattle.wiki_model.specs.Cache.{CacheMap, Cached, IsCache, Puts, SameKey, SameChecks, SameCache, set_rule}
 use Rattle.wiki_model.specs.CacheCalls.{IsNoteOf, value_of_snapshot, answer_of_replica}
 use Rattle.wiki_model.specs.World as world
-use Rattle.wiki_model.specs.World.{World, Floor, Stored, Event, site, moment, request_at, without_request, at_home, at_west, event_in}
+use Rattle.wiki_model.specs.World.{World, Floor, Stored, site, moment, request_at, without_request}
 use Rattle.wiki_model.specs.World.Event.{Kept}
 use Rattle.wiki_model.specs.Reuse.{IsNote, IsQuiet, main_life, interim_life}
 use Rattle.wiki_model.specs.Answers as model
-use Rattle.wiki_model.specs.Answers.{Answer, PageAnswer, IsPutNote, IsValueOf, HasRaised, ChosenReplica, is_lagged_choice}
+use Rattle.wiki_model.specs.Answers.{Answer, PageAnswer, ChosenReplica, is_lagged_choice}
 use Rattle.wiki_model.specs.Steps as steps
 use Rattle.wiki_model.specs.Steps.{Step, Stores, kept, stored}
 use Rattle.wiki_model.specs.Runs.{One, with_faults, CountsFaults}
 use Rattle.wiki_model.specs.Consistent.{IsParked}
-use Rattle.wiki_model.specs.Caches.{CacheStands, IsTrueIn, class_check}
+use Rattle.wiki_model.specs.Caches.{CacheStands, IsTrueIn}
+use Rattle.wiki_model.proofs.PutStandsLaws.{later-stands, same-but}
 use Rattle.wiki_model.proofs.StoreLaws.{put-stands, no_put-stands, put-note, whole-true, lagged-true}
 use Rattle.wiki_model.proofs.StoringLaws.{store-allowed, no_page-allowed}
 use Rattle.region_state.specs.declared.open_view.OpenView.{OpenView}
@@ -62,45 +59,10 @@ lagged_is replica false = refl
 
 -- a put that found no memory leaves the map, but for the greatest moment
 
-same_but : (old new : CacheMap Bytes) → ((key : Bytes) → SameKey old new key) → SameChecks old new → SameCache old new → (let m : CacheMap Bytes = record old { greatest = new.greatest } in m) ≡ new
-same_but old new all checks same i = record {
-  floor = λ t. sym (all t).floor i;
-  main = λ t. sym (all t).main i;
-  interim = λ t. sym (all t).interim i;
-  template_check = sym checks.template i;
-  message_check = sym checks.message i;
-  greatest = new.greatest;
-  together = sym same.together i;
-  shared = sym same.shared i;
-  hold_off = sym same.hold_off i;
-}
-
-later_stands : (v : World) (r : Region) (cache : CacheMap Bytes) (now : ℕ) → now ≤ moment r v → CacheStands v r cache → CacheStands v r (record cache { greatest = now })
-later_stands v r cache now le c = record {
-  is_cache = record { main = c.is_cache.main; itself = c.is_cache.itself; third = c.is_cache.third };
-  together = c.together;
-  held_off = record { main = c.held_off.main; interim = c.held_off.interim; floors = c.held_off.floors; checks = checks; set_after = c.held_off.set_after; times = le; length = c.held_off.length };
-  causes = record { floor = c.causes.floor; check = causes; main = c.causes.main; interim = c.causes.interim };
-  stored = record { main = c.stored.main; interim = c.stored.interim };
-}
-  where
-    class_same : (class : Class) → class_check cache class ≡ class_check (let m : CacheMap Bytes = record cache { greatest = now } in m) class
-    class_same Class.Template = refl
-    class_same Class.Message = refl
-    class_same Class.Plain = refl
-
-    checks : (purge : ℕ) (of : Bytes) (at : ℕ) → HasReceipt v r purge of at → is_shared_title of ≡ true → at + hold_off v.setting.bounds ≤ class_check (let m : CacheMap Bytes = record cache { greatest = now } in m) (class_of of)
-    checks purge of at has shared = subst (λ n. at + hold_off v.setting.bounds ≤ n) (class_same (class_of of)) (c.held_off.checks purge of at has shared)
-
-    causes : (class : Class) → 0 < class_check (let m : CacheMap Bytes = record cache { greatest = now } in m) class → HasRaised v r (λ of. is_shared_title of ≡ true) (class_check (let m : CacheMap Bytes = record cache { greatest = now } in m) class)
-    causes Class.Template some = c.causes.check Class.Template some
-    causes Class.Message some = c.causes.check Class.Message some
-    causes Class.Plain some = c.causes.check Class.Plain some
-
 memory_stands : (v w : World) (r : Region) (old new : CacheMap Bytes) (s : Stored) → CacheStands v r old → ((key : Bytes) → SameKey old new key) → SameChecks old new → SameCache old new → new.greatest ≤ moment r v
     → main_life s.note ≡ 0 → interim_life s.note ≡ 0 → IsEvent v w r (Kept s) → CacheStands w r new
 memory_stands v w r old new s stands all checks same le main interim event =
-    no_put-stands v w r new s (subst (CacheStands v r) (same_but old new all checks same) (later_stands v r old new.greatest le stands)) main interim event
+    no_put-stands v w r new s (subst (CacheStands v r) (same-but old new all checks same) (later-stands v r old new.greatest le stands)) main interim event
 
 -- the mark that a note tells
 

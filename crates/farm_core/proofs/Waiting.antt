@@ -7,11 +7,11 @@ use Rattle.wiki_model.specs.Bytes.{Bytes}
 use Rattle.wiki_model.specs.History.{Entry}
 use Rattle.wiki_model.specs.Cache.{CacheMap}
 use Rattle.wiki_model.specs.World as world
-use Rattle.wiki_model.specs.World.{World, moment, request_at, with_request, without_request, site}
+use Rattle.wiki_model.specs.World.{World, moment, request_at, with_request, without_request}
 use Rattle.wiki_model.specs.Sessions.{Known, Lag, known, lag_of, floor_of, lag_behind, live_index, greatest}
 use Rattle.wiki_model.specs.Answers.{Answer, NotOpen, Lagging}
 use Rattle.wiki_model.specs.Steps.{Step, gives_up, Waits as MayWait, waited}
-use Rattle.wiki_model.specs.Runs.{Reply, One, with_faults}
+use Rattle.wiki_model.specs.Runs.{One, with_faults}
 use Rattle.region_state.specs.declared.open_view.OpenView.{OpenView}
 use Rattle.farm_steps.specs.declared.open_request.OpenRequest.TheVariants as point
 use Rattle.region_state.specs.AsModel.{open_view_of, view_of}

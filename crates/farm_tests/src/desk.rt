@@ -26,6 +26,7 @@ pub struct Desk<K: Keeper + Drop> {
 }
 
 impl<K: Keeper + Drop> Desk<K> {
+    /// A desk over this keeper, with nothing sent and no position.
     pub fn new(alloc: Global, keeper: K) -> Desk<K> {
         Desk {
             keeper,
@@ -86,6 +87,7 @@ impl<K: Keeper + Drop> Desk<K> {
         }
     }
 
+    /// Gives up an edit that was begun; out of memory if the ledger has less room than it reserved.
     pub fn abandon(&mut self, edit: BegunEdit) -> Result<(), Memory> {
         if self.ledger.spare() < 2 {
             return Err(Memory);

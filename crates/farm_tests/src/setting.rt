@@ -14,6 +14,7 @@ pub fn must(holds: bool, words: &str) -> Result<(), Fail> {
     if holds { Ok(()) } else { Err(Fail::new(words)) }
 }
 
+/// The title that is typed so.
 pub fn title_of(alloc: Global, typed: &str) -> Result<Title, Fail> {
     Ok(Title::parse(alloc, typed)?)
 }
@@ -50,6 +51,7 @@ pub fn first_commit(alloc: Global, stamp: u64, text: &str) -> Result<Entry, Fail
     })
 }
 
+/// A beat with this stamp.
 pub fn beat(stamp: u64) -> Entry {
     Entry::Beat {
         stamp: Moment(stamp),

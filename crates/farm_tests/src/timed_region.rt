@@ -83,6 +83,7 @@ impl<S: RegionStore<Page> + Drop> TimedRegion<S> {
         self.now = Moment(later.min(MOMENT_MAX));
     }
 
+    /// What the cache has now for a page of at least so many entries.
     pub fn look(&self, alloc: Global, title: &str, need: u64) -> Result<Seen, Fail> {
         let title = title_of(alloc, title)?;
         Ok(match self.region.look(&title, need, self.now) {
@@ -93,6 +94,7 @@ impl<S: RegionStore<Page> + Drop> TimedRegion<S> {
         })
     }
 
+    /// What a replica shows of the title now, for a page of at least so many entries; no edit of it is begun.
     pub fn snap(&self, alloc: Global, title: &str, need: u64, word: u64) -> Result<Snapped, Fail> {
         let title = title_of(alloc, title)?;
         let terms = SnapTerms {
@@ -103,11 +105,13 @@ impl<S: RegionStore<Page> + Drop> TimedRegion<S> {
         Ok(self.region.snap(alloc, &title, terms, self.now)?)
     }
 
+    /// Renders and stores now what was snapped.
     pub fn store(&mut self, alloc: Global, title: &str, snapped: &Snapped) -> Result<Stored, Fail> {
         let title = title_of(alloc, title)?;
         Ok(shown(self.region.store(alloc, &title, snapped, self.now)))
     }
 
+    /// Takes a purge of the title now.
     pub fn receive(&mut self, alloc: Global, title: &str) -> Result<(), Fail> {
         let title = title_of(alloc, title)?;
         self.region.receive(&title, self.now);
@@ -132,10 +136,12 @@ impl<S: RegionStore<Page> + Drop> TimedRegion<S> {
         self.region.apply_entry(0, n, entry)
     }
 
+    /// Pages are read by this markup from now on.
     pub fn set_markup(&mut self, markup: u8) {
         self.region.set_markup(markup);
     }
 
+    /// The markup by which pages are read.
     pub fn markup(&self) -> u8 {
         self.region.markup()
     }

@@ -1,5 +1,5 @@
 -- What `format!` prints associates to the right, and the definitions to the left: the same pieces, so the same text.
-use Rattle.std.proofs.Common.{◌≡◌, ℕ, Result, Ok, Err, Bool, true, false, List, [], ◌∷◌, ◌++◌, refl, sym, ap, ◌∙◌, append_assoc}
+use Rattle.std.proofs.Common.{◌≡◌, ℕ, Result, Ok, Err, Bool, true, false, [], ◌∷◌, ◌++◌, sym, ap, ◌∙◌}
 use Rattle.std.specs.Prelude.{codes, decimal, if◌then◌else◌, IfOk, string_bytes, String}
 use Rattle.wiki_model.specs.Bytes.{Bytes}
 use Rattle.farm_base.proofs.Pieces.{right_left}

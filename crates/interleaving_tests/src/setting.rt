@@ -31,6 +31,7 @@ pub fn farm_over(alloc: Global, keeper: MemKeeper, at: Readings) -> Result<TestF
     }
 }
 
+/// A farm over an empty keeper, by the plan of this crate, opened at the moment 0.
 pub fn small_farm(alloc: Global) -> Result<TestFarm, Fail> {
     farm_over(alloc, MemKeeper::new(alloc), both(0))
 }
@@ -100,6 +101,7 @@ pub fn saves<K: Keeper, S: RegionStore<Page>>(
     said(alloc, commit(farm, at, 1)?)
 }
 
+/// A request with this id arrives; fails if one with the id is open.
 pub fn arrive<K: Keeper, S: RegionStore<Page>>(
     farm: &mut Farm<K, S>,
     at: Readings,
@@ -113,6 +115,7 @@ pub fn arrive<K: Keeper, S: RegionStore<Page>>(
     }
 }
 
+/// Begins the edit with this id; fails if a cache is lent.
 pub fn begin<K: Keeper, S: RegionStore<Page>>(
     farm: &mut Farm<K, S>,
     at: Readings,
@@ -125,6 +128,7 @@ pub fn begin<K: Keeper, S: RegionStore<Page>>(
     }
 }
 
+/// Commits the edit with this id; fails if a cache is lent.
 pub fn commit<K: Keeper, S: RegionStore<Page>>(
     farm: &mut Farm<K, S>,
     at: Readings,
@@ -137,6 +141,7 @@ pub fn commit<K: Keeper, S: RegionStore<Page>>(
     }
 }
 
+/// Looks for the page of the view with this id; fails if a cache is lent.
 pub fn look<K: Keeper, S: RegionStore<Page>>(
     farm: &mut Farm<K, S>,
     at: Readings,
@@ -149,6 +154,7 @@ pub fn look<K: Keeper, S: RegionStore<Page>>(
     }
 }
 
+/// Stores the page of the view with this id; fails if a cache is lent.
 pub fn store<K: Keeper, S: RegionStore<Page>>(
     alloc: Global,
     farm: &mut Farm<K, S>,
@@ -162,6 +168,7 @@ pub fn store<K: Keeper, S: RegionStore<Page>>(
     }
 }
 
+/// Carries the message of this number to west, by this body if one is shown; fails if a cache is lent.
 pub fn carry<K: Keeper, S: RegionStore<Page>>(
     farm: &mut Farm<K, S>,
     at: Readings,

@@ -3,10 +3,12 @@ use std::alloc::Global;
 use std::test::Fail;
 use wiki_titles::{Text, Title};
 
+/// The title that is typed so.
 pub fn title_of(alloc: Global, typed: &str) -> Result<Title, Fail> {
     Ok(Title::parse(alloc, typed)?)
 }
 
+/// The text that is typed so.
 pub fn text_of(alloc: Global, typed: &str) -> Result<Text, Fail> {
     Ok(Text::parse(alloc, typed)?)
 }
@@ -41,6 +43,7 @@ pub fn html_by(
     Ok(String::from_str(alloc, std::str::from_utf8(page.bytes())?)?)
 }
 
+/// A template page: its title and its text.
 pub fn template_of(alloc: Global, title: &str, text: &str) -> Result<(Title, Text), Fail> {
     Ok((title_of(alloc, title)?, text_of(alloc, text)?))
 }
@@ -68,6 +71,7 @@ pub fn html_with(alloc: Global, notice: &str, blocks: &str) -> Result<String, Fa
 /// Pieces one after another, each as often as is told.
 pub type Pieces<'a> = &'a [(&'a str, usize)];
 
+/// The text of these pieces.
 pub fn joined(alloc: Global, pieces: Pieces<'_>) -> Result<String, Fail> {
     let mut made = String::new(alloc);
     for (piece, count) in pieces {

@@ -1,7 +1,7 @@
 -- The titles that a text names, found place by place; which of them were named before; and their order.
-use Rattle.std.proofs.Common.{suc, [], ◌∷◌, ◌++◌, List, length, drop, ◌≡◌, ℕ, ◌≤◌, ◌<◌, ◌+◌, refl, arith, ap, sym, ◌∙◌, Some, None, get_or, replicate, append-nil, inl, inr, Result, Ok, Err, subst, true}
+use Rattle.std.proofs.Common.{suc, [], ◌∷◌, ◌++◌, List, length, drop, ◌≡◌, ℕ, ◌≤◌, ◌<◌, ◌+◌, refl, arith, ap, sym, ◌∙◌, get_or, replicate, append-nil, inl, inr, Result, Ok, Err, subst, true}
 use Rattle.std.specs.Prelude.{◌↔◌, ◌⊎◌, IfOk, bytes_eq, slice_set}
-use Rattle.std.specs.List.{All, Contains, dedup}
+use Rattle.std.specs.List.{Contains, dedup}
 use Rattle.std.specs.List.Sorted.{IsSorted, IsPermutation, IsStrictlySortedBy}
 use Rattle.std.specs.Cmp.Lexicographic.{same_text, nat_list_eq_equiv, nat_list_cmp_total, texts_ties}
 use Rattle.std.proofs.lemmas.List.{drop_all}

@@ -1,9 +1,9 @@
 -- The templates that a text names, as it stands or when it is read in one line. In one line, braces stand where they stand in the text,
 -- since neither a line feed nor a space is one; so it is enough to read in one line what stands between them.
-use Rattle.std.proofs.Common.{zero, suc, [], ◌∷◌, ◌++◌, List, length, take, drop, ◌≡◌, ℕ, ◌≤◌, ◌<◌, ◌+◌, ◌-◌, Bool, true, false, cond, refl, arith, ap, sym, ◌∙◌, Some, None, nat_eq, nat_le, subst}
+use Rattle.std.proofs.Common.{zero, suc, [], ◌∷◌, List, length, take, drop, ◌≡◌, ℕ, ◌+◌, ◌-◌, Bool, true, false, cond, refl, arith, ap, sym, ◌∙◌, Some, None, nat_eq, nat_le, subst}
 use Rattle.std.specs.Prelude.{Option, codes, option_map, option_and_then, if◌then◌else◌, ◌&&◌, ⊤}
 use Rattle.std.proofs.lemmas.Bool.Decides.{nat_tests}
-use Rattle.std.proofs.lemmas.List.{length-map, length-drop, take_all, drop_all}
+use Rattle.std.proofs.lemmas.List.{length-map, length-drop, take_all}
 use Rattle.wiki_model.specs.Bytes.{Bytes, begins, cut_at, line_feed, replaced, space}
 use Rattle.wiki_model.specs.Titles.{Title}
 use Rattle.wiki_model.specs.Html.{bracketed, if_short, template_named}

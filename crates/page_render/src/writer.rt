@@ -36,7 +36,11 @@ impl<'p> Model for Writer<'p> {
 
     ghost Value = { Draft };
 
-    ghost view = { λ writer. record { html = writer.html.items; included = writer.included; templates = writer.templates } };
+    ghost view = { λ writer. record {
+      html = writer.html.items;
+      included = writer.included;
+      templates = writer.templates;
+    } };
 }
 
 impl<'p> Writer<'p> {

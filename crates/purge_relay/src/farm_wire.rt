@@ -55,7 +55,14 @@ impl Model for FarmWire {
 
     ghost Value = { Line };
 
-    ghost view = { λ w. record { sent = w.sent.messages; taken = w.taken.messages; plan = plan_of w.script; faults = w.faults; refused = w.refused; empty = w.empty } };
+    ghost view = { λ w. record {
+      sent = w.sent.messages;
+      taken = w.taken.messages;
+      plan = plan_of w.script;
+      faults = w.faults;
+      refused = w.refused;
+      empty = w.empty;
+    } };
 
     ghost invariant = { λ w. Keeps w.script w.waiting.items w.sent.messages w.taken.messages };
 }

@@ -1,10 +1,9 @@
 -- A store that is told of commits in turn has the rows of the model that is told of them in turn.
-use Rattle.std.proofs.Common.{◌≡◌, Bool, true, false, cond, List, [], ◌∷◌, Option, Some, None, option_map, Result, Ok, Err, refl, sym, ap, subst, ◌∙◌, nat_lt, bytes_eq}
+use Rattle.std.proofs.Common.{◌≡◌, Bool, true, false, cond, List, [], ◌∷◌, Option, Some, option_map, Result, Ok, Err, refl, sym, ap, subst, ◌∙◌, bytes_eq}
 use Rattle.std.specs.Prelude.{OnOk}
 use Rattle.wiki_model.specs.Titles.{Client}
 use Rattle.wiki_model.specs.History.{Numbered}
 use Rattle.wiki_model.specs.Positions.{Rows, told_all, later_row, row_for}
-use Rattle.chronology_store.specs.declared.position_row.HeldPosition.{HeldPosition}
 use Rattle.chronology_store.specs.declared.ClientCommit.{ClientCommit}
 use Rattle.chronology_store.specs.declared.position_row.PositionRow.{PositionRow}
 use Rattle.chronology_store.specs.PositionRow.{later, held_by, told_one, told_by}

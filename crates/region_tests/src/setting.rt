@@ -5,10 +5,12 @@ use std::alloc::Global;
 use std::test::Fail;
 use wiki_titles::{ClientId, Text, Title, Token};
 
+/// The title that is typed so.
 pub fn title_of(alloc: Global, typed: &str) -> Result<Title, Fail> {
     Ok(Title::parse(alloc, typed)?)
 }
 
+/// A beat with this stamp.
 pub fn beat(stamp: u64) -> Entry {
     Entry::Beat {
         stamp: Moment(stamp),

@@ -36,7 +36,12 @@ impl Model for MemKeeper {
 
     ghost Value = { MemKeeperState };
 
-    ghost view = { λ k. record { history = k.history; failing = k.appends.numbers; calls = k.appends.made; faults = k.faults } };
+    ghost view = { λ k. record {
+      history = k.history;
+      failing = k.appends.numbers;
+      calls = k.appends.made;
+      faults = k.faults;
+    } };
 }
 
 impl MemKeeper {

@@ -29,11 +29,9 @@ Host: wiki.example\r
 }
 
 #[test]
-fn a_message_that_is_refused_is_sent_before_the_request_after(rt: HostRuntime) -> Result<(), Fail> {
+fn the_next_connection_sends_what_was_left_unsent(rt: HostRuntime) -> Result<(), Fail> {
     let mut served = small_farm(rt.alloc())?;
-    let mut deals = Vec::new(rt.alloc());
-    deals.push(Deal::Skip)?;
-    let mut wire = FarmWire::scripted(rt.alloc(), deals);
+    let mut wire = FarmWire::new(rt.alloc());
     let input = "\
 POST /edit HTTP/1.1\r
 Host: wiki.example\r
@@ -43,7 +41,44 @@ title=A&base=0&token=k&text=one";
     let mut conn = conn_of(rt.alloc(), input.as_bytes(), 65_536)?;
     let end = serve_at(rt.alloc(), &mut served, &mut conn, &mut wire, 5_000)?;
     assert_eq!(rt; end, ConnEnd::Closed);
+    assert_eq!(rt; served.farm.issued(), 2);
     assert_eq!(rt; served.sent, 0);
     assert!(rt; served.farm.receipt(1, Region::West).is_none());
+    let input = b"GET /wiki/B HTTP/1.1\r\nHost: wiki.example\r\n\r\n";
+    let mut conn = conn_of(rt.alloc(), input, 65_536)?;
+    let end = serve_at(rt.alloc(), &mut served, &mut conn, &mut wire, 5_000)?;
+    assert_eq!(rt; end, ConnEnd::Closed);
+    assert_eq!(rt; served.sent, 2);
+    assert!(rt; served.farm.receipt(1, Region::West).is_some());
+    Ok(())
+}
+
+#[test]
+fn a_take_that_fails_ends_the_taking(rt: HostRuntime) -> Result<(), Fail> {
+    let input = "\
+POST /edit HTTP/1.1\r
+Host: wiki.example\r
+Content-Length: 31\r
+\r
+title=A&base=0&token=k&text=one\
+GET /wiki/B HTTP/1.1\r
+Host: wiki.example\r
+\r
+GET /wiki/B HTTP/1.1\r
+Host: wiki.example\r
+\r
+";
+    let mut deals = Vec::new(rt.alloc());
+    deals.push(Deal::Skip)?;
+    deals.push(Deal::Fail)?;
+    deals.push(Deal::Carry(1))?;
+    deals.push(Deal::Carry(1))?;
+    let mut served = small_farm(rt.alloc())?;
+    let mut wire = FarmWire::scripted(rt.alloc(), deals);
+    let mut conn = conn_of(rt.alloc(), input.as_bytes(), 65_536)?;
+    let end = serve_at(rt.alloc(), &mut served, &mut conn, &mut wire, 5_000)?;
+    assert_eq!(rt; end, ConnEnd::Closed);
+    assert_eq!(rt; served.sent, 2);
+    assert!(rt; served.farm.receipt(1, Region::West).is_some());
     Ok(())
 }

@@ -78,7 +78,8 @@ fn the_same_is_said_byte_by_byte(rt: HostRuntime) -> Result<(), Fail> {
 #[test]
 fn a_head_says_how_long_the_page_is_and_does_not_send_it(rt: HostRuntime) -> Result<(), Fail> {
     let input = format!(in rt.alloc();
-        "{SAVING}HEAD /wiki/Caf%C3%A9_menu HTTP/1.0\r\nHost: wiki.example\r\n\r\n")?;
+        "{SAVING}HEAD /wiki/Caf%C3%A9_menu HTTP/1.0\r\nHost: wiki.example\r\n\r\n"
+    )?;
     let Talked { end, text } = talk(rt.alloc(), input.as_bytes())?;
     let last = "\
 Connection: keep-alive\r
@@ -163,7 +164,10 @@ Cookie: cpPosIndex=2@5#00000000000000000000000000000001\r
     let input = format!(in rt.alloc(); "{SAVING}{view}")?;
     let Talked { end, text } = talk(rt.alloc(), input.as_bytes())?;
     assert_eq!(rt; end, ConnEnd::Closed);
-    assert!(rt; text.as_str().ends_with("\r\n\r\nlag index needed=2 reached=1\n"));
+    assert!(rt;
+        text.as_str()
+            .ends_with("\r\n\r\nlag index needed=2 reached=1\n")
+    );
     Ok(())
 }
 

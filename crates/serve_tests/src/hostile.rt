@@ -61,21 +61,31 @@ fn a_text_at_its_limit_is_saved_and_one_more_is_not(rt: HostRuntime) -> Result<(
     let fields = "title=A&base=0&token=k&text=";
     let length = fields.len() + 65_536;
     let more = length + 1;
-    let input = format!(in rt.alloc(); "POST /edit HTTP/1.1\r\nHost: a\r\nContent-Length: {length}\r\n\r\n{fields}{most}")?;
+    let input = format!(in rt.alloc();
+        "POST /edit HTTP/1.1\r\nHost: a\r\nContent-Length: {length}\r\n\r\n{fields}{most}"
+    )?;
     let Talked { end, text } = talk(rt.alloc(), input.as_bytes())?;
     assert!(rt; text.as_str().starts_with("HTTP/1.1 303 See Other\r\n"));
     assert_eq!(rt; end, ConnEnd::Closed);
-    let input = format!(in rt.alloc(); "POST /edit HTTP/1.1\r\nHost: a\r\nContent-Length: {more}\r\n\r\n{fields}{most}a")?;
+    let input = format!(in rt.alloc();
+        "POST /edit HTTP/1.1\r\nHost: a\r\nContent-Length: {more}\r\n\r\n{fields}{most}a"
+    )?;
     let Talked { end, text } = talk(rt.alloc(), input.as_bytes())?;
     assert!(rt; text.as_str().ends_with("\r\n\r\nlarge bytes=65537\n"));
-    assert!(rt; text.as_str().starts_with("HTTP/1.1 413 Content Too Large\r\n"));
+    assert!(rt;
+        text.as_str()
+            .starts_with("HTTP/1.1 413 Content Too Large\r\n")
+    );
     assert_eq!(rt; end, ConnEnd::Closed);
     Ok(())
 }
 
 #[test]
 fn a_batch_is_not_served_yet(rt: HostRuntime) -> Result<(), Fail> {
-    let Talked { end, text } = talk(rt.alloc(), b"GET /batch?titles=A HTTP/1.1\r\nHost: a\r\n\r\n")?;
+    let Talked { end, text } = talk(
+        rt.alloc(),
+        b"GET /batch?titles=A HTTP/1.1\r\nHost: a\r\n\r\n",
+    )?;
     let wanted = "\
 HTTP/1.1 501 Not Implemented\r
 Content-Type: text/plain; charset=utf-8\r

@@ -82,9 +82,7 @@ pub fn serve_at<K: Keeper, S: RegionStore<Page>, W: Wire>(
     }
     let mut clock = MemClock::new(Vec::new(alloc), both(now));
     let mut lots = MemLots::new(Vec::new(alloc), 0);
-    Ok(serve_conn(
-        alloc, served, conn, &mut clock, &mut lots, wire,
-    ))
+    Ok(serve_conn(alloc, served, conn, &mut clock, &mut lots, wire))
 }
 
 /// What one connection wrote, and how it ended.

@@ -45,9 +45,27 @@ impl<P> Model for MapCache<P> {
 
     ghost Value = { MapState P };
 
-    ghost view = { λ c. record { rows = c.table.rows.entries; uses = c.table.uses; capacity = c.table.capacity; base = c.table.base; template_check = c.template_check; message_check = c.message_check; greatest = c.greatest; hold_off = c.hold_off } };
+    ghost view = { λ c. record {
+      rows = c.table.rows.entries;
+      uses = c.table.uses;
+      capacity = c.table.capacity;
+      base = c.table.base;
+      template_check = c.template_check;
+      message_check = c.message_check;
+      greatest = c.greatest;
+      hold_off = c.hold_off;
+    } };
 
-    ghost invariant = { λ c. IsKept (record { rows = c.table.rows.entries; uses = c.table.uses; capacity = c.table.capacity; base = c.table.base; template_check = c.template_check; message_check = c.message_check; greatest = c.greatest; hold_off = c.hold_off }) };
+    ghost invariant = { λ c. IsKept (record {
+      rows = c.table.rows.entries;
+      uses = c.table.uses;
+      capacity = c.table.capacity;
+      base = c.table.base;
+      template_check = c.template_check;
+      message_check = c.message_check;
+      greatest = c.greatest;
+      hold_off = c.hold_off;
+    }) };
 }
 
 impl<P: Drop> MapCache<P> {

@@ -26,7 +26,7 @@ abbrev later : CacheMap Bytes → (now : ℕ) → CacheMap Bytes
 later cache now = record cache { greatest = now }
 
 -- the map that a call without memory leaves is the old one, but for the greatest moment
-same-but : (old new : CacheMap Bytes) → ((key : Title) → SameKey old new key) → SameChecks old new → SameCache old new → later old new.greatest ≡ new
+pub same-but : (old new : CacheMap Bytes) → ((key : Title) → SameKey old new key) → SameChecks old new → SameCache old new → later old new.greatest ≡ new
 same-but old new all checks same i = record {
   floor = λ t. sym (all t).floor i;
   main = λ t. sym (all t).main i;

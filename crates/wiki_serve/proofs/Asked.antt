@@ -141,9 +141,9 @@ module _ {K S : Type 0} (content : K → Option (List Entry)) (faults : K → �
   not_noted old new at what first said s =
       let over = opened_said (Some said) said old.requests new.requests 0 first refl s.requests in
       chain_done old new at what said (turn at (Step.Arrive 0 what) (Some said) ∷ [])
-        (chain_one old new (turn at (Step.Arrive 0 what) (Some said)) (OpensRequest 0 first (Some said)) s)
-        (λ none. ap (λ (es : Entries). open_at es 0) over.1 ∙ none)
-        (makes what (ap is_miss over.0)) refl (subst (FitsAsked what) (sym over.0) (fits what))
+      (chain_one old new (turn at (Step.Arrive 0 what) (Some said)) (OpensRequest 0 first (Some said)) s)
+      (λ none. ap (λ (es : Entries). open_at es 0) over.1 ∙ none)
+      (makes what (ap is_miss over.0)) refl (subst (FitsAsked what) (sym over.0) (fits what))
     where
       makes : (a : world.Asked) → is_miss said ≡ false → Makes at (steps_of_asked a) (turn at (Step.Arrive 0 a) (Some said) ∷ [])
       makes (world.AskedEdit edit) e = (refl, refl, last_one said _ e)
@@ -166,7 +166,7 @@ module _ {K S : Type 0} (content : K → Option (List Entry)) (faults : K → �
       let one = chain_one f0 f1 t1 (OpensRequest 0 ArrivedEdit None) s1 in
       let two = chain_next f0 f1 f2 (t1 ∷ []) t2 (MovesOn 0 ArrivedEdit BeginsAt (Some said)) one s2 in
       chain_done f0 f2 at (world.AskedEdit edit) said (t1 ∷ t2 ∷ []) two (λ none. closed_none f2.requests 0 over.0)
-        (refl, refl, (refl, refl, last_one said _ over.1)) refl tt
+      (refl, refl, (refl, refl, last_one said _ over.1)) refl tt
 
   edit_commits : (f0 f1 f2 f3 : FarmParts K S) (at : Readings) (edit : Edit) (said : Option Answer)
       → Steps content faults cache_of f0 f1 (turn at (Step.Arrive 0 (world.AskedEdit edit)) None) (OpensRequest 0 ArrivedEdit None)
@@ -183,7 +183,7 @@ module _ {K S : Type 0} (content : K → Option (List Entry)) (faults : K → �
       let two = chain_next f0 f1 f2 (t1 ∷ []) t2 (MovesOn 0 ArrivedEdit BeginsAt None) one s2 in
       let three = chain_next f0 f2 f3 (t1 ∷ t2 ∷ []) t3 (MovesOn 0 BegunEdit CommitsAt (Some said)) two s3 in
       chain_done f0 f3 at (world.AskedEdit edit) said (t1 ∷ t2 ∷ t3 ∷ []) three (λ none. closed_none f3.requests 0 over.0)
-        (refl, refl, (refl, refl, (refl, refl, last_one said _ over.1))) refl tt
+      (refl, refl, (refl, refl, (refl, refl, last_one said _ over.1))) refl tt
 
   -- Views
 
@@ -198,7 +198,7 @@ module _ {K S : Type 0} (content : K → Option (List Entry)) (faults : K → �
       let one = chain_one f0 f1 t1 (OpensRequest 0 ArrivedView None) s1 in
       let two = chain_next f0 f1 f2 (t1 ∷ []) t2 (MovesOn 0 ArrivedView (WaitsAt true) (Some said)) one s2 in
       chain_done f0 f2 at (world.AskedView view) said (t1 ∷ t2 ∷ []) two (λ none. closed_none f2.requests 0 over.0)
-        (refl, refl, (refl, refl, last_one said _ over.1)) refl over.2
+      (refl, refl, (refl, refl, last_one said _ over.1)) refl over.2
 
   -- what a view has made when it has waited
   pub record ViewWaits (f0 f1 f2 : FarmParts K S) (at : Readings) (ask : ViewAsk) : Type 0 where
@@ -226,7 +226,7 @@ module _ {K S : Type 0} (content : K → Option (List Entry)) (faults : K → �
       let t3 : Turn = turn at (Step.Look 0) (Some said) in
       let three = chain_next f0 f2 f3 (t1 ∷ t2 ∷ []) t3 (MovesOn 0 WaitedView LooksFrom (Some said)) (waits_on f0 f1 f2 at ask w) s3 in
       chain_done f0 f3 at (world.AskedView (view_of ask)) said (t1 ∷ t2 ∷ t3 ∷ []) three (λ none. closed_none f3.requests 0 over.0)
-        (refl, refl, (refl, refl, (refl, refl, last_one said _ plain))) refl over.1
+      (refl, refl, (refl, refl, (refl, refl, last_one said _ plain))) refl over.1
 
   view_snaps : (f0 f1 f2 f3 f4 : FarmParts K S) (at : Readings) (ask : ViewAsk) (why : Cause) (said : Answer) → ViewWaits f0 f1 f2 at ask
       → Steps content faults cache_of f2 f3 (turn at (Step.Look 0) (Some (model.Miss why))) (MovesOn 0 WaitedView LooksFrom (Some (model.Miss why)))
@@ -241,7 +241,7 @@ module _ {K S : Type 0} (content : K → Option (List Entry)) (faults : K → �
       let three = chain_next f0 f2 f3 (t1 ∷ t2 ∷ []) t3 (MovesOn 0 WaitedView LooksFrom (Some (model.Miss why))) (waits_on f0 f1 f2 at ask w) s3 in
       let four = chain_next f0 f3 f4 (t1 ∷ t2 ∷ t3 ∷ []) t4 (MovesOn 0 LookedView SnapsAt (Some said)) three s4 in
       chain_done f0 f4 at (world.AskedView (view_of ask)) said (t1 ∷ t2 ∷ t3 ∷ t4 ∷ []) four (λ none. closed_none f4.requests 0 over.0)
-        (refl, refl, (refl, refl, (refl, refl, (refl, refl, last_one said _ over.1)))) refl over.2
+      (refl, refl, (refl, refl, (refl, refl, (refl, refl, last_one said _ over.1)))) refl over.2
 
   view_stores : (f0 f1 f2 f3 f4 f5 : FarmParts K S) (at : Readings) (ask : ViewAsk) (why : Cause) (said : Option Answer) → ViewWaits f0 f1 f2 at ask
       → Steps content faults cache_of f2 f3 (turn at (Step.Look 0) (Some (model.Miss why))) (MovesOn 0 WaitedView LooksFrom (Some (model.Miss why)))
@@ -260,7 +260,7 @@ module _ {K S : Type 0} (content : K → Option (List Entry)) (faults : K → �
       let four = chain_next f0 f3 f4 (t1 ∷ t2 ∷ t3 ∷ []) t4 (MovesOn 0 LookedView SnapsAt None) three s4 in
       let five = chain_next f0 f4 f5 (t1 ∷ t2 ∷ t3 ∷ t4 ∷ []) t5 (MovesOn 0 SnappedView StoresFrom (Some said)) four s5 in
       chain_done f0 f5 at (world.AskedView (view_of ask)) said (t1 ∷ t2 ∷ t3 ∷ t4 ∷ t5 ∷ []) five (λ none. closed_none f5.requests 0 over.0)
-        (refl, refl, (refl, refl, (refl, refl, (refl, refl, (refl, refl, last_one said _ over.1))))) refl over.2
+      (refl, refl, (refl, refl, (refl, refl, (refl, refl, (refl, refl, last_one said _ over.1))))) refl over.2
 
   -- The same, as the farm's calls say it
 
@@ -321,7 +321,7 @@ module _ {K S : Type 0} (content : K → Option (List Entry)) (faults : K → �
   view_is_refused f0 f1 f2 f3 f4 at ask r3 (Some d) w miss some s3 s4 =
       let m = missed (option_map answer_of r3) miss in
       view_snaps f0 f1 f2 f3 f4 at ask m.0 (answer_of d) w
-        (subst (λ (said : Option Answer). Steps content faults cache_of f2 f3 (turn at (Step.Look 0) said) (MovesOn 0 WaitedView LooksFrom said)) m.1 s3) s4
+      (subst (λ (said : Option Answer). Steps content faults cache_of f2 f3 (turn at (Step.Look 0) said) (MovesOn 0 WaitedView LooksFrom said)) m.1 s3) s4
 
   pub view_made : (f0 f1 f2 f3 f4 f5 : FarmParts K S) (at : Readings) (ask : ViewAsk) (r3 r4 r5 : Option CodeAnswer) → ViewWaits f0 f1 f2 at ask → IsMissed (option_map answer_of r3) → false ≡ is_some r4
       → Steps content faults cache_of f2 f3 (turn_of at (Step.Look 0) r3) (Looks 0 r3)
@@ -332,4 +332,4 @@ module _ {K S : Type 0} (content : K → Option (List Entry)) (faults : K → �
   view_made f0 f1 f2 f3 f4 f5 at ask r3 None r5 w miss none s3 s4 s5 =
       let m = missed (option_map answer_of r3) miss in
       view_stores f0 f1 f2 f3 f4 f5 at ask m.0 (option_map answer_of r5) w
-        (subst (λ (said : Option Answer). Steps content faults cache_of f2 f3 (turn at (Step.Look 0) said) (MovesOn 0 WaitedView LooksFrom said)) m.1 s3) s4 s5
+      (subst (λ (said : Option Answer). Steps content faults cache_of f2 f3 (turn at (Step.Look 0) said) (MovesOn 0 WaitedView LooksFrom said)) m.1 s3) s4 s5

@@ -120,7 +120,7 @@ module _ {K S : Type 0} (content : K → Option (List Entry)) (faults : K → �
   pub asked_called : (desk : Desk) (old new : FarmParts K S) (sent_old sent_new : ℕ) (at : Readings) (lots lots_now : Option (Series ℕ)) (before now : WireSeen) (request : Request) (words : List ℕ) (asked : Asked) (title : Title) (answer : Answer)
       → desk.pace ≡ old.plan.pace → GivesAll lots words lots_now → ServesAsked content faults cache_of old new sent_old sent_new at before now asked answer
       → ((service : Service) (v w : World) → service.at ≡ at → service.words ≡ words → Agrees content faults cache_of old v → ServesOne service.at desk.pace service.taken asked v service.turns w
-          → (last_reply service.turns ≡ Some (One (Some answer))) → service.outcome ≡ Answered title answer → DoesCall desk request request.call service v w)
+      → (last_reply service.turns ≡ Some (One (Some answer))) → service.outcome ≡ Answered title answer → DoesCall desk request request.call service v w)
       → CalledFor content faults cache_of desk old new sent_old sent_new at (record { lots = lots; wire = before.carried; refused = before.refused; empty = before.empty }) (record { lots = lots_now; wire = now.carried; refused = now.refused; empty = now.empty }) request (Answered title answer)
   asked_called desk old new sent_old sent_new at lots lots_now before now request words asked title answer pace gives serves does = record {
     service = service;
@@ -156,7 +156,7 @@ module _ {K S : Type 0} (content : K → Option (List Entry)) (faults : K → �
 
       goes_on : (start : World) (turns : List Turn) (v : World) → StandsSent content faults cache_of old sent_old start turns v
           → (w : World) × StandsSent content faults cache_of new sent_new start (reverse (serves.housework.turns ++ serves.own.turns) ++ turns) w
-            × DoesOne desk request service (record { world = v; unsent = unsent_of old sent_old }) (record { world = w; unsent = unsent_of new sent_new })
+          × DoesOne desk request service (record { world = v; unsent = unsent_of old sent_old }) (record { world = w; unsent = unsent_of new sent_new })
       goes_on start turns v stood =
           let (m, middle, keeps) = work.keeps start turns v stood.stands in
           let (w, stands, goes) = own.made.runs start (reverse work.turns ++ turns) m middle in
@@ -167,13 +167,14 @@ module _ {K S : Type 0} (content : K → Option (List Entry)) (faults : K → �
           let long = rows_long old v stood.stands.agrees in
           let within = stood.within in
           let inside = work.within (omega (arith, long, within)) in
-          let kept = subst (λ (p : ℕ). Housekeeps at p work.taken v work.turns m) (sym pace) keeps in
-          (w,
-           record { stands = subst (λ (l : List Turn). Stands content faults cache_of new start l w) order stands; within = omega (arith, inside, long, grow) },
-           one_done desk old new sent_old sent_new request service v w work.later work.within work.are work.all work.left work.few work.full within stood.stands.agrees stands.agrees grow
-             (does service v w refl refl stood.stands.agrees
-               (record { before = work.turns; own = own.turns; middle = m; housekeeping = kept; makes = own.makes; goes = goes; all = refl })
-               (last_after work.turns own.turns (One (Some answer)) own.last) refl))
+          let kept = subst (λ (p : ℕ). Housekeeps at p work.taken v work.turns m) (sym pace) keeps in (
+            w,
+            record { stands = subst (λ (l : List Turn). Stands content faults cache_of new start l w) order stands; within = omega (arith, inside, long, grow) },
+            one_done desk old new sent_old sent_new request service v w work.later work.within work.are work.all work.left work.few work.full within stood.stands.agrees stands.agrees grow
+                (does service v w refl refl stood.stands.agrees
+                (record { before = work.turns; own = own.turns; middle = m; housekeeping = kept; makes = own.makes; goes = goes; all = refl })
+                (last_after work.turns own.turns (One (Some answer)) own.last) refl),
+          )
 
   -- a call that gets its housekeeping alone
   pub kept_called : (desk : Desk) (old new : FarmParts K S) (sent_old sent_new : ℕ) (at : Readings) (lots : Option (Series ℕ)) (before now : WireSeen) (request : Request)
@@ -208,14 +209,15 @@ module _ {K S : Type 0} (content : K → Option (List Entry)) (faults : K → �
 
       goes_on : (start : World) (turns : List Turn) (v : World) → StandsSent content faults cache_of old sent_old start turns v
           → (w : World) × StandsSent content faults cache_of new sent_new start (reverse work.turns ++ turns) w
-            × DoesOne desk request service (record { world = v; unsent = unsent_of old sent_old }) (record { world = w; unsent = unsent_of new sent_new })
+          × DoesOne desk request service (record { world = v; unsent = unsent_of old sent_old }) (record { world = w; unsent = unsent_of new sent_new })
       goes_on start turns v stood =
           let (w, stands, keeps) = work.keeps start turns v stood.stands in
           let grow = goes_house at old.plan.pace work.taken v work.turns w keeps in
           let long = rows_long old v stood.stands.agrees in
           let within = stood.within in
-          let inside = work.within (omega (arith, long, within)) in
-          (w,
-           record { stands = stands; within = omega (arith, inside, long, grow) },
-           one_done desk old new sent_old sent_new request service v w work.later work.within work.are work.all work.left work.few work.full within stood.stands.agrees stands.agrees grow
-             (does service v w refl (subst (λ (p : ℕ). Housekeeps at p work.taken v work.turns w) (sym pace) keeps) refl))
+          let inside = work.within (omega (arith, long, within)) in (
+            w,
+            record { stands = stands; within = omega (arith, inside, long, grow) },
+            one_done desk old new sent_old sent_new request service v w work.later work.within work.are work.all work.left work.few work.full within stood.stands.agrees stands.agrees grow
+                (does service v w refl (subst (λ (p : ℕ). Housekeeps at p work.taken v work.turns w) (sym pace) keeps) refl),
+          )

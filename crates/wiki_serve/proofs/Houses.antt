@@ -15,6 +15,8 @@ use Rattle.wiki_model.specs.Runs.{Turn}
 use Rattle.wiki_model.specs.Serving.{GoesBy, AllMade, Taken, carries, is_due, is_past, beats, beat_if, applies, applies_from, Housekeeps}
 use Rattle.farm_base.specs.Causes.{counted}
 use Rattle.purge_relay.specs.Carried.{Carried}
+use Rattle.purge_relay.specs.AsModel.{body_of}
+use Rattle.purge_relay.specs.declared.message.Message.{Message}
 use Rattle.purge_relay.specs.declared.ledger_row.LedgerRow.{LedgerRow}
 use Rattle.farm_steps.specs.ViewSteps.{region_at}
 use Rattle.farm_steps.specs.RequestMap.{open_at}
@@ -24,7 +26,7 @@ use Rattle.farm_core.specs.Runs.{Stands}
 use Rattle.wiki_serve.specs.Exchanges.{with_messages, as_message}
 use Rattle.wiki_serve.specs.Services.{numbers_from}
 use Rattle.wiki_serve.specs.Turns.{MakesTurns, MakesStep}
-use Rattle.wiki_serve.specs.Housework.{WireSeen, counted_if, IsRow, AreRows, SendsTo, SendsAll, TakesSome, IsTaking, TakesAll, BeatsIfDue, applies_to, AppliesTo, KeepsHouse, DoesHousework}
+use Rattle.wiki_serve.specs.Housework.{WireSeen, counted_if, IsRow, AreRows, SendsTo, IsSending, SendsAll, TakesSome, IsTaking, TakesAll, BeatsIfDue, applies_to, AppliesTo, KeepsHouse, DoesHousework}
 use Rattle.wiki_serve.proofs.OneMore.{carried_more, numbers_more}
 use Rattle.wiki_serve.proofs.Steps.{turn, all_none, all_one, all_joined, none_made, made_joined, shapes}
 
@@ -40,58 +42,70 @@ same_wire : (wire : Option Carried) → wire ≡ option_map (with_messages [] []
 same_wire None = refl
 same_wire (Some c) = ap (λ l. Some (let d : Carried = record { sent = l; taken = c.taken } in d)) (sym (append-nil c.sent)) ∙ ap (λ l. Some (let d : Carried = record { sent = c.sent ++ []; taken = l } in d)) (sym (append-nil c.taken))
 
-pub sends_none : (rows : List LedgerRow) (sent : ℕ) (wire : WireSeen) → SendsTo rows sent sent wire wire [] false
+-- the message of a row that is found
+pub row_of : (o : Option LedgerRow) (m : Message) → Some m ≡ option_map (λ (row : LedgerRow). row.message) o → option_map (λ (row : LedgerRow). body_of row.message.body) o ≡ Some (body_of m.body)
+row_of None m is = let no : ⊥ = cc in absurd no
+row_of (Some row) m is = let same : row.message ≡ m = cc in ap (λ (x : Message). Some (body_of x.body)) same
+
+pub sends_none : (rows : List LedgerRow) (sent : ℕ) (wire : WireSeen) → IsSending rows sent sent wire wire
 sends_none rows sent wire = record {
-  later = omega arith;
-  within = λ w. w;
-  are = let none : sent - sent ≡ 0 = omega arith in subst (λ n. AreRows rows (numbers_from (sent + 1) n) []) (sym none) tt;
-  carried = same_wire wire.carried;
-  refused = refl;
-  empty = refl;
+  sent = [];
+  sends = record {
+    later = omega arith;
+    within = λ w. w;
+    are = let none : sent - sent ≡ 0 = omega arith in subst (λ n. AreRows rows (numbers_from (sent + 1) n) []) (sym none) tt;
+    carried = same_wire wire.carried;
+    refused = refl;
+    empty = refl;
+  };
 }
 
 -- one more was sent
-pub sends_more : (rows : List LedgerRow) (before now : ℕ) (old mid new : WireSeen) (sent : List Taken) (t : Taken) → SendsTo rows before now old mid sent false → IsRow rows (now + 1) t → now < length rows
+pub sends_more : (rows : List LedgerRow) (before now : ℕ) (old mid new : WireSeen) (t : Taken) → IsSending rows before now old mid → IsRow rows (now + 1) t → now < length rows
     → new.carried ≡ option_map (with_messages (t ∷ []) []) mid.carried → new.refused ≡ mid.refused → new.empty ≡ mid.empty
-    → SendsTo rows before (now + 1) old new (sent ++ t ∷ []) false
-sends_more rows before now old mid new sent t s row less carried refused empty =
+    → IsSending rows before (now + 1) old new
+sends_more rows before now old mid new t is row less carried refused empty =
+    let s = is.sends in
     let later = s.later in
     let count : now + 1 - before ≡ (now - before) + 1 = omega (arith, later) in
     let next : before + 1 + (now - before) ≡ now + 1 = omega (arith, later) in
     record {
-      later = omega (arith, later);
-      within = λ w. omega (arith, less);
-      are = subst (λ ns. AreRows rows ns (sent ++ t ∷ []))
-          (sym (ap (numbers_from (before + 1)) count ∙ numbers_more (before + 1) (now - before) 1 ∙ ap (λ k. numbers_from (before + 1) (now - before) ++ k ∷ []) next))
-          (rows_more rows (numbers_from (before + 1) (now - before)) sent (now + 1) t s.are row);
-      carried = carried ∙ ap (option_map (with_messages (t ∷ []) [])) s.carried ∙ carried_more sent (t ∷ []) [] [] old.carried;
-      refused = refused ∙ s.refused;
-      empty = empty ∙ s.empty;
+      sent = is.sent ++ t ∷ [];
+      sends = record {
+        later = omega (arith, later);
+        within = λ w. omega (arith, less);
+        are = subst (λ ns. AreRows rows ns (is.sent ++ t ∷ []))
+            (sym (ap (numbers_from (before + 1)) count ∙ numbers_more (before + 1) (now - before) 1 ∙ ap (λ k. numbers_from (before + 1) (now - before) ++ k ∷ []) next))
+            (rows_more rows (numbers_from (before + 1) (now - before)) is.sent (now + 1) t s.are row);
+        carried = carried ∙ ap (option_map (with_messages (t ∷ []) [])) s.carried ∙ carried_more is.sent (t ∷ []) [] [] old.carried;
+        refused = refused ∙ s.refused;
+        empty = empty ∙ s.empty;
+      };
     }
 
 -- a send was refused
-pub sends_halted : (rows : List LedgerRow) (before now : ℕ) (old mid new : WireSeen) (sent : List Taken) → SendsTo rows before now old mid sent false → now < length rows
+pub sends_halted : (rows : List LedgerRow) (before now : ℕ) (old mid new : WireSeen) → IsSending rows before now old mid → now < length rows
     → new.carried ≡ mid.carried → new.refused ≡ counted mid.refused → new.empty ≡ mid.empty → SendsAll rows before now old new
-sends_halted rows before now old mid new sent s less carried refused empty = record {
-  sent = sent;
+sends_halted rows before now old mid new is less carried refused empty = record {
+  sent = is.sent;
   halted = true;
   sends = record {
-    later = s.later;
-    within = s.within;
-    are = s.are;
-    carried = carried ∙ s.carried;
-    refused = refused ∙ ap counted s.refused;
-    empty = empty ∙ s.empty;
+    later = is.sends.later;
+    within = is.sends.within;
+    are = is.sends.are;
+    carried = carried ∙ is.sends.carried;
+    refused = refused ∙ ap counted is.sends.refused;
+    empty = empty ∙ is.sends.empty;
   };
   all = λ e. let no : ⊥ = cc in absurd no;
   left = λ e. less;
 }
 
-pub sends_over : (rows : List LedgerRow) (before now : ℕ) (old new : WireSeen) (sent : List Taken) → SendsTo rows before now old new sent false → length rows ≤ now → SendsAll rows before now old new
-sends_over rows before now old new sent s over = record {
-  sent = sent;
+pub sends_over : (rows : List LedgerRow) (before now : ℕ) (old new : WireSeen) → IsSending rows before now old new → length rows ≤ now → SendsAll rows before now old new
+sends_over rows before now old new is over = record {
+  sent = is.sent;
   halted = false;
-  sends = s;
+  sends = is.sends;
   all = λ e. over;
   left = λ e. let no : ⊥ = cc in absurd no;
 }
@@ -308,27 +322,30 @@ module _ {K S : Type 0} (content : K → Option (List Entry)) (faults : K → �
           let homes : length f2.home.replicas ≡ length f1.home.replicas = beat.made.shape.home in
           let wests : length f3.west.replicas ≡ length f1.west.replicas = home.made.shape.west ∙ beat.made.shape.west in
           let steps : applies_to Home f2.plan.pace 0 (length f2.home.replicas) ++ applies_to West f2.plan.pace 0 (length f3.west.replicas) ≡ applies w f0.plan.pace =
-              ap (λ n. applies_to Home f2.plan.pace 0 n ++ applies_to West f2.plan.pace 0 (length f3.west.replicas)) homes
-              ∙ ap (λ n. applies_to Home f2.plan.pace 0 (length f1.home.replicas) ++ applies_to West f2.plan.pace 0 n) wests
-              ∙ ap (λ p. applies_to Home p 0 (length f1.home.replicas) ++ applies_to West p 0 (length f1.west.replicas)) pace_is
-              ∙ sym (applied_long f1 w f0.plan.pace a) in
+          ap (λ n. applies_to Home f2.plan.pace 0 n ++ applies_to West f2.plan.pace 0 (length f3.west.replicas)) homes
+          ∙ ap (λ n. applies_to Home f2.plan.pace 0 (length f1.home.replicas) ++ applies_to West f2.plan.pace 0 n) wests
+          ∙ ap (λ p. applies_to Home p 0 (length f1.home.replicas) ++ applies_to West p 0 (length f1.west.replicas)) pace_is
+          ∙ sym (applied_long f1 w f0.plan.pace a) in
           all_joined at (beat_if (is_due w at)) (applies w f0.plan.pace) beat.turns (home.turns ++ west.turns)
-            (subst (λ b. AllMade at (beat_if b) beat.turns) (sym (beat.is w a)) beat.are)
-            (subst (λ ss. AllMade at ss (home.turns ++ west.turns)) steps
-              (all_joined at (applies_to Home f2.plan.pace 0 (length f2.home.replicas)) (applies_to West f2.plan.pace 0 (length f3.west.replicas)) home.turns west.turns home.are west.are))
+          (subst (λ b. AllMade at (beat_if b) beat.turns) (sym (beat.is w a)) beat.are)
+          (subst (λ ss. AllMade at ss (home.turns ++ west.turns)) steps
+          (all_joined at (applies_to Home f2.plan.pace 0 (length f2.home.replicas)) (applies_to West f2.plan.pace 0 (length f3.west.replicas)) home.turns west.turns home.are west.are))
 
       keeps : KeepsHouse content faults cache_of f0 f4 at f0.plan.pace takes.taken (carrying ++ keeping)
       keeps start earlier v stood =
           let (m, stands, went) = takes.takes.made.runs start earlier v stood in
           let (w, later, goes) = all.runs start (reverse carrying ++ earlier) m stands in
-          let order : reverse keeping ++ (reverse carrying ++ earlier) ≡ reverse (carrying ++ keeping) ++ earlier = sym (ap (λ l. l ++ earlier) (reverse-append carrying keeping) ∙ append_assoc (reverse keeping) (reverse carrying) earlier) in
-          (w, subst (λ (l : List Turn). Stands content faults cache_of f4 start l w) order later, record {
-            carrying = carrying;
-            keeping = keeping;
-            middle = m;
-            carried = takes.takes.are;
-            goes = went;
-            kept = applied m stands.agrees;
-            goes_on = goes;
-            all = refl;
-          })
+          let order : reverse keeping ++ (reverse carrying ++ earlier) ≡ reverse (carrying ++ keeping) ++ earlier = sym (ap (λ l. l ++ earlier) (reverse-append carrying keeping) ∙ append_assoc (reverse keeping) (reverse carrying) earlier) in (
+            w,
+            subst (λ (l : List Turn). Stands content faults cache_of f4 start l w) order later,
+            record {
+              carrying = carrying;
+              keeping = keeping;
+              middle = m;
+              carried = takes.takes.are;
+              goes = went;
+              kept = applied m stands.agrees;
+              goes_on = goes;
+              all = refl;
+            },
+          )

@@ -4,3 +4,5 @@ pub mod Steps
 pub mod Houses
 pub mod Asked
 pub mod Calling
+pub mod Looping
+pub mod CallKinds

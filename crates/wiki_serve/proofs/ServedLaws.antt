@@ -108,9 +108,11 @@ has_read_more (Some input) (Some left) (Some left2) kept kept2 xs x all is = rea
 pub goes_on_more : (desk : Desk) (Stood Stands Later : Standing) (a b c : List ℕ) (xs ys : List (Exchange Service)) → GoesOnBy desk Stood Stands a b xs → GoesOnBy desk Stands Later b c ys → GoesOnBy desk Stood Later a c (xs ++ ys)
 goes_on_more desk Stood Stands Later a b c xs ys first second start turns v stood =
     let (u, stands, did) = first start turns v stood in
-    let (w, later, does) = second start (reverse (turns_of xs) ++ turns) u stands in
-    (w, subst (λ (l : List Turn). Later start l w) (sym (turns_more xs ys turns)) later,
-      does_more (DoesOne desk) xs ys (let h : Held = record { world = v; unsent = a } in h) (record { world = u; unsent = b }) (record { world = w; unsent = c }) did does)
+    let (w, later, does) = second start (reverse (turns_of xs) ++ turns) u stands in (
+      w,
+      subst (λ (l : List Turn). Later start l w) (sym (turns_more xs ys turns)) later,
+      does_more (DoesOne desk) xs ys (let h : Held = record { world = v; unsent = a } in h) (record { world = u; unsent = b }) (record { world = w; unsent = c }) did does,
+    )
 
 -- a refused request makes the farm do nothing
 pub refused_goes_on : (desk : Desk) (Stands : Standing) (unsent : List ℕ) (refusal : Refusal) → GoesOnBy desk Stands Stands unsent unsent (Refusing refusal ∷ [])
@@ -126,7 +128,7 @@ refused_hears heard refusal = record { clock = refl; lots = refl; wire = same_wi
 -- a service goes on by its own turns
 pub serving_goes_on : (desk : Desk) (Stood Stands : Standing) (a b : List ℕ) (request : Request) (service : Service)
     → ((start : World) (turns : List Turn) (v : World) → Stood start turns v
-        → (w : World) × Stands start (reverse service.turns ++ turns) w × DoesOne desk request service (record { world = v; unsent = a }) (record { world = w; unsent = b }))
+    → (w : World) × Stands start (reverse service.turns ++ turns) w × DoesOne desk request service (record { world = v; unsent = a }) (record { world = w; unsent = b }))
     → GoesOnBy desk Stood Stands a b (Serving request service ∷ [])
 serving_goes_on desk Stood Stands a b request service goes start turns v stood =
     let (w, stands, does) = goes start turns v stood in
@@ -205,8 +207,8 @@ answered : (desk : Desk) (a b c : Seen) (conn : Conn) (Stood Stands Later : Stan
     → ServedSoFar desk a (record c { conn = conn }) Stood Later (on.exchanges ++ x ∷ []) (responses (on.exchanges ++ x ∷ []))
 answered desk a b c conn Stood Stands Later count x on one writes =
     subst (ServedSoFar desk a (record c { conn = conn }) Stood Later (on.exchanges ++ x ∷ [])) (sym (responses_more count on.exchanges x on.number))
-      (served_written desk a c conn Stood Later (on.exchanges ++ x ∷ []) (responses on.exchanges) (response (count + 1) x)
-        (served_more desk a b c Stood Stands Later on.exchanges x (responses on.exchanges) on.so_far one) writes)
+    (served_written desk a c conn Stood Later (on.exchanges ++ x ∷ []) (responses on.exchanges) (response (count + 1) x)
+    (served_more desk a b c Stood Stands Later on.exchanges x (responses on.exchanges) on.so_far one) writes)
 
 -- and the connection goes on
 pub serves_on : (desk : Desk) (a b c : Seen) (conn : Conn) (Stood Stands Later : Standing) (count : ℕ) (x : Exchange Service)
@@ -250,27 +252,27 @@ pub ends_closed : (desk : Desk) (a b : Seen) (conn : Conn) (kept : Bytes) (Stood
     → MayServeOn desk a b Stood Stands count → ReadsFrom b.conn conn b.kept kept NoMore → IsServed desk a.conn conn a.heard b.heard a.unsent b.unsent Stood Stands Closed
 ends_closed desk a b conn kept Stood Stands count on reads =
     served desk a b conn Stood Stands on.exchanges (responses on.exchanges) (responses on.exchanges) Closed on.so_far reads.later (adds_stays a.conn.written b.conn.written conn.written (responses on.exchanges) on.so_far.written reads.written)
-      (λ rest e. let (rest2, read) = told_read b.kept kept b.conn.left conn.left NoMore reads.read rest e in (on.may_go_on, closed_is_empty (b.kept ++ rest) (kept ++ rest2) read, refl)) tt
+    (λ rest e. let (rest2, read) = told_read b.kept kept b.conn.left conn.left NoMore reads.read rest e in (on.may_go_on, closed_is_empty (b.kept ++ rest) (kept ++ rest2) read, refl)) tt
 
 pub ends_cut : (desk : Desk) (a b : Seen) (conn : Conn) (kept : Bytes) (Stood Stands : Standing) (count : ℕ)
     → MayServeOn desk a b Stood Stands count → ReadsFrom b.conn conn b.kept kept Cut → IsServed desk a.conn conn a.heard b.heard a.unsent b.unsent Stood Stands CutOff
 ends_cut desk a b conn kept Stood Stands count on reads =
     served desk a b conn Stood Stands on.exchanges (responses on.exchanges) (responses on.exchanges) CutOff on.so_far reads.later (adds_stays a.conn.written b.conn.written conn.written (responses on.exchanges) on.so_far.written reads.written)
-      (λ rest e. let (rest2, read) = told_read b.kept kept b.conn.left conn.left Cut reads.read rest e in (on.may_go_on, cut_leaves_anything (b.kept ++ rest) (kept ++ rest2) read, refl)) tt
+    (λ rest e. let (rest2, read) = told_read b.kept kept b.conn.left conn.left Cut reads.read rest e in (on.may_go_on, cut_leaves_anything (b.kept ++ rest) (kept ++ rest2) read, refl)) tt
 
 pub ends_read_fault : (desk : Desk) (a b : Seen) (conn : Conn) (Stood Stands : Standing) (count : ℕ)
     → MayServeOn desk a b Stood Stands count → IsLater b.conn conn → Stays b.conn.written conn.written → Rose b.conn.read_faults conn.read_faults → IsServed desk a.conn conn a.heard b.heard a.unsent b.unsent Stood Stands ReadFault
 ends_read_fault desk a b conn Stood Stands count on later stays rose =
     served desk a b conn Stood Stands on.exchanges (responses on.exchanges) (responses on.exchanges) ReadFault on.so_far later (adds_stays a.conn.written b.conn.written conn.written (responses on.exchanges) on.so_far.written stays)
-      (λ rest e. (on.may_go_on, later_rose a.conn.read_faults b.conn.read_faults conn.read_faults on.so_far.later.read_faults rose, refl))
-      (later_rose a.conn.read_faults b.conn.read_faults conn.read_faults on.so_far.later.read_faults rose)
+    (λ rest e. (on.may_go_on, later_rose a.conn.read_faults b.conn.read_faults conn.read_faults on.so_far.later.read_faults rose, refl))
+    (later_rose a.conn.read_faults b.conn.read_faults conn.read_faults on.so_far.later.read_faults rose)
 
 -- out of memory before a request is begun
 pub ends_memory : (desk : Desk) (a b : Seen) (conn : Conn) (Stood Stands : Standing) (count : ℕ)
     → MayServeOn desk a b Stood Stands count → IsLater b.conn conn → Stays b.conn.written conn.written → IsServed desk a.conn conn a.heard b.heard a.unsent b.unsent Stood Stands Memory
 ends_memory desk a b conn Stood Stands count on later stays =
     served desk a b conn Stood Stands on.exchanges (responses on.exchanges) (responses on.exchanges) Memory on.so_far later (adds_stays a.conn.written b.conn.written conn.written (responses on.exchanges) on.so_far.written stays)
-      (λ rest e. inl (on.may_go_on, refl)) tt
+    (λ rest e. inl (on.may_go_on, refl)) tt
 
 -- and after_head it, with no byte of its response written
 pub ends_unanswered : (desk : Desk) (a b c : Seen) (conn : Conn) (Stood Stands Later : Standing) (count : ℕ) (x : Exchange Service)
@@ -278,7 +280,7 @@ pub ends_unanswered : (desk : Desk) (a b c : Seen) (conn : Conn) (Stood Stands L
 ends_unanswered desk a b c conn Stood Stands Later count x on one later stays =
     let so = served_more desk a b c Stood Stands Later on.exchanges x (responses on.exchanges) on.so_far one in
     served desk a c conn Stood Later (on.exchanges ++ x ∷ []) (responses on.exchanges) (responses on.exchanges) Memory so later (adds_stays a.conn.written c.conn.written conn.written (responses on.exchanges) so.written stays)
-      (λ rest e. inr (on.exchanges, x, record { split = refl; before = on.may_go_on }, [], sym (append-nil (responses on.exchanges)), refl)) tt
+    (λ rest e. inr (on.exchanges, x, record { split = refl; before = on.may_go_on }, [], sym (append-nil (responses on.exchanges)), refl)) tt
 
 pub ends_write_fault : (desk : Desk) (a b c : Seen) (conn : Conn) (Stood Stands Later : Standing) (count : ℕ) (x : Exchange Service)
     → MayServeOn desk a b Stood Stands count → HasOne desk b c Stands Later x → IsLater c.conn conn → AddsPrefix c.conn.written conn.written (response (count + 1) x) → Rose c.conn.write_faults conn.write_faults
@@ -288,10 +290,19 @@ ends_write_fault desk a b c conn Stood Stands Later count x on one later front r
     let (n, small, added) = front in
     let is_nth : response (count + 1) x ≡ response (length (on.exchanges ++ x ∷ [])) x = ap (λ k. response k x) (sym (longer on.exchanges x count on.number)) in
     served desk a c conn Stood Later (on.exchanges ++ x ∷ []) (responses on.exchanges) (responses on.exchanges ++ take n (response (count + 1) x)) WriteFault so later
-      (adds_more a.conn.written c.conn.written conn.written (responses on.exchanges) (take n (response (count + 1) x)) so.written added)
-      (λ rest e. (later_rose a.conn.write_faults c.conn.write_faults conn.write_faults so.later.write_faults rose, (on.exchanges, x, record { split = refl; before = on.may_go_on }, take n (response (count + 1) x), refl,
-        (drop n (response (count + 1) x), sym is_nth ∙ sym (take-append-drop n (response (count + 1) x))))))
-      (later_rose a.conn.write_faults c.conn.write_faults conn.write_faults so.later.write_faults rose)
+    (adds_more a.conn.written c.conn.written conn.written (responses on.exchanges) (take n (response (count + 1) x)) so.written added)
+    (λ rest e. (
+      later_rose a.conn.write_faults c.conn.write_faults conn.write_faults so.later.write_faults rose,
+      (
+        on.exchanges,
+        x,
+        record { split = refl; before = on.may_go_on },
+        take n (response (count + 1) x),
+        refl,
+        (drop n (response (count + 1) x), sym is_nth ∙ sym (take-append-drop n (response (count + 1) x))),
+      ),
+    ))
+    (later_rose a.conn.write_faults c.conn.write_faults conn.write_faults so.later.write_faults rose)
 
 pub ends_ended : (desk : Desk) (a b c : Seen) (conn : Conn) (Stood Stands Later : Standing) (count : ℕ) (x : Exchange Service)
     → MayServeOn desk a b Stood Stands count → HasOne desk b c Stands Later x → WritesTo c.conn conn (response (count + 1) x) → closes x ≡ true
@@ -299,7 +310,7 @@ pub ends_ended : (desk : Desk) (a b c : Seen) (conn : Conn) (Stood Stands Later 
 ends_ended desk a b c conn Stood Stands Later count x on one writes shut =
     let so = answered desk a b c conn Stood Stands Later count x on one writes in
     served desk a (record c { conn = conn }) conn Stood Later (on.exchanges ++ x ∷ []) (responses (on.exchanges ++ x ∷ [])) (responses (on.exchanges ++ x ∷ [])) Ended so (record { peer = refl; read_faults = omega arith; write_faults = omega arith }) so.written
-      (λ rest e. (on.exchanges, x, record { split = refl; before = on.may_go_on }, shut, refl)) tt
+    (λ rest e. (on.exchanges, x, record { split = refl; before = on.may_go_on }, shut, refl)) tt
 
 pub ends_enough : (desk : Desk) (a b c : Seen) (conn : Conn) (Stood Stands Later : Standing) (count : ℕ) (x : Exchange Service)
     → MayServeOn desk a b Stood Stands count → HasOne desk b c Stands Later x → WritesTo c.conn conn (response (count + 1) x) → closes x ≡ false → count + 1 ≡ requests_max
@@ -307,4 +318,4 @@ pub ends_enough : (desk : Desk) (a b c : Seen) (conn : Conn) (Stood Stands Later
 ends_enough desk a b c conn Stood Stands Later count x on one writes on_still full =
     let so = answered desk a b c conn Stood Stands Later count x on one writes in
     served desk a (record c { conn = conn }) conn Stood Later (on.exchanges ++ x ∷ []) (responses (on.exchanges ++ x ∷ [])) (responses (on.exchanges ++ x ∷ [])) Enough so (record { peer = refl; read_faults = omega arith; write_faults = omega arith }) so.written
-      (λ rest e. (none_closes_more on.exchanges x on.may_go_on.0 on_still, longer on.exchanges x count on.number ∙ full, refl)) tt
+    (λ rest e. (none_closes_more on.exchanges x on.may_go_on.0 on_still, longer on.exchanges x count on.number ∙ full, refl)) tt

@@ -54,9 +54,10 @@ pub all_one : (at : Readings) (step : Step) (said : Option Answer) → AllMade a
 all_one at step said = (refl, All-cons (λ (t : Turn). t.at ≡ at) (turn at step said) [] refl (All-nil (λ (t : Turn). t.at ≡ at)))
 
 pub all_joined : (at : Readings) (steps more : List Step) (turns later : List Turn) → AllMade at steps turns → AllMade at more later → AllMade at (steps ++ more) (turns ++ later)
-all_joined at steps more turns later first second =
-    (map-append (λ (t : Turn). t.step) turns later ∙ ap (λ l. l ++ map (λ (t : Turn). t.step) later) first.0 ∙ ap (λ l. steps ++ l) second.0,
-     All-append (λ (t : Turn). t.at ≡ at) turns later first.1 second.1)
+all_joined at steps more turns later first second = (
+  map-append (λ (t : Turn). t.step) turns later ∙ ap (λ l. l ++ map (λ (t : Turn). t.step) later) first.0 ∙ ap (λ l. steps ++ l) second.0,
+  All-append (λ (t : Turn). t.at ≡ at) turns later first.1 second.1,
+)
 
 module _ {K S : Type 0} (content : K → Option (List Entry)) (faults : K → ℕ) (cache_of : S → CacheMap Bytes) where
   pub step_runs : (old new : FarmParts K S) (t : Turn) (Moves : (old new : Entries) → Type 0) → Steps content faults cache_of old new t Moves

@@ -116,5 +116,5 @@ pub record IsServed (desk : Desk) (conn_before conn_after : Conn) (before after 
   pub goes_on :
       (start : World) (turns : List Turn) (v : World) → Stood start turns v
       → (w : World) × Stands start (reverse (turns_of exchanges) ++ turns) w
-        × DoesAll (DoesOne desk) exchanges (record { world = v; unsent = unsent_before })
-          (record { world = w; unsent = unsent_after })
+      × DoesAll (DoesOne desk) exchanges (record { world = v; unsent = unsent_before })
+      (record { world = w; unsent = unsent_after })

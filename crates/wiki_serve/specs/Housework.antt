@@ -66,6 +66,11 @@ pub record SendsTo (rows : List LedgerRow) (before now : ℕ) (old new : WireSee
   pub refused : new.refused ≡ counted_if halted old.refused
   pub empty : new.empty ≡ old.empty
 
+-- between two sends
+pub record IsSending (rows : List LedgerRow) (before now : ℕ) (old new : WireSeen) : Type 0 where
+  pub sent : List Taken
+  pub sends : SendsTo rows before now old new sent false
+
 -- The unsent messages were sent, all of them unless one was refused.
 pub record SendsAll (rows : List LedgerRow) (before now : ℕ) (old new : WireSeen) : Type 0 where
   pub sent : List Taken
@@ -138,7 +143,7 @@ abbrev pub KeepsHouse : {K S : Type 0} → (K → Option (List Entry)) → (K �
 KeepsHouse content faults cache_of old new at pace taken turns =
     (start : World) (earlier : List Turn) (v : World) → Stands content faults cache_of old start earlier v
     → (w : World) × Stands content faults cache_of new start (reverse turns ++ earlier) w
-      × Housekeeps at pace taken v turns w
+    × Housekeeps at pace taken v turns w
 
 -- The housekeeping of one request.
 pub record DoesHousework {K S : Type 0} (content : K → Option (List Entry)) (faults : K → ℕ)

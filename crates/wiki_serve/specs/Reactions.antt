@@ -98,8 +98,8 @@ pub record CalledFor {K S : Type 0} (content : K → Option (List Entry)) (fault
   pub goes_on : (start : World) (turns : List Turn) (v : World)
       → StandsSent content faults cache_of old sent_old start turns v
       → (w : World) × StandsSent content faults cache_of new sent_new start (reverse service.turns ++ turns) w
-        × DoesOne desk request service (record { world = v; unsent = unsent_of old sent_old })
-          (record { world = w; unsent = unsent_of new sent_new })
+      × DoesOne desk request service (record { world = v; unsent = unsent_of old sent_old })
+      (record { world = w; unsent = unsent_of new sent_new })
   pub closed : open_at old.requests 0 ≡ None → open_at new.requests 0 ≡ None
   pub shape : SameShape old new
   pub counts : faults old.keeper ≤ faults new.keeper
@@ -129,7 +129,7 @@ DoesCallFor content faults cache_of desk old new sent_old sent_new at before now
 DoesCallFor content faults cache_of desk old new sent_old sent_new at before now request (Some answer) =
     (title : Title) × IsAnswerTo request.call title answer
     × CalledFor content faults cache_of desk old new sent_old sent_new at before now request
-      (exchange.Answered title answer)
+    (exchange.Answered title answer)
 
 -- the text is where the edited page is
 abbrev pub IsLocationFor : Call → (text : Bytes) → Type 0

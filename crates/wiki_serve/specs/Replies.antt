@@ -66,6 +66,17 @@ answer_reply location answer head close = record {
   close = close;
 }
 
+-- the same of an answer that is no page, with these fields
+abbrev pub text_reply : Answer → (lines : List (Bytes × Bytes)) → (head close : Bool) → Reply
+text_reply answer lines head close = record {
+  status = answer_status answer;
+  html = false;
+  body = text_line (answer_text false answer);
+  lines = lines;
+  head = head;
+  close = close;
+}
+
 -- a request that is read and not served
 abbrev pub unserved_reply : (head close : Bool) → Reply
 unserved_reply head close = record {

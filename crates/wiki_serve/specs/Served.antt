@@ -59,8 +59,8 @@ abbrev pub GoesOnBy : Desk → (Stood Now : Standing) → (unsent_before unsent_
 GoesOnBy desk Stood Now unsent_before unsent_now exchanges =
     (start : World) (turns : List Turn) (v : World) → Stood start turns v
     → (w : World) × Now start (reverse (turns_of exchanges) ++ turns) w
-      × DoesAll (DoesOne desk) exchanges (record { world = v; unsent = unsent_before })
-        (record { world = w; unsent = unsent_now })
+    × DoesAll (DoesOne desk) exchanges (record { world = v; unsent = unsent_before })
+    (record { world = w; unsent = unsent_now })
 
 -- From one point to another there were these exchanges, and this text was written.
 pub record ServedSoFar (desk : Desk) (before now : Seen) (Stood Now : Standing) (exchanges : List (Exchange Service)) (text : Bytes) : Type 0 where

@@ -59,12 +59,12 @@ abbrev pub DoesCall : Desk → Request → Call → Service → (v w : World) �
 DoesCall desk request (PageCall title) service v w =
     (word : ℕ) × (service.words ≡ word ∷ [])
     × ServesOne service.at desk.pace service.taken
-        (AskedView (view_for desk (moment_for v service.at request) request word title)) v service.turns w
+    (AskedView (view_for desk (moment_for v service.at request) request word title)) v service.turns w
     × IsAnswered title service.turns service.outcome
 DoesCall desk request (EditCall title base token text) service v w =
     (service.words ≡ [])
     × ServesOne service.at desk.pace service.taken
-        (AskedEdit (edit_for desk (moment_for v service.at request) request title base token text)) v service.turns w
+    (AskedEdit (edit_for desk (moment_for v service.at request) request title base token text)) v service.turns w
     × IsAnswered title service.turns service.outcome
 DoesCall desk request (BatchCall titles) service v w =
     (service.words ≡ []) × Housekeeps service.at desk.pace service.taken v service.turns w

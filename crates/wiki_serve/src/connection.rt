@@ -5,7 +5,7 @@ ghost use Rattle.wiki_serve.specs.Connections.{conn_seen, IsServed};
 ghost use Rattle.wiki_serve.specs.Turns.{StandsSent, unsent_of};
 ghost use Rattle.wiki_serve.specs.Reactions.{desk_of};
 ghost use Rattle.wiki_serve.specs.AsModel.{end_of};
-ghost use Rattle.farm_core.specs.FarmParts.{IsWhole};
+ghost use Rattle.farm_core.specs.FarmParts.{IsWhole, SameShape};
 ghost use Rattle.farm_steps.specs.RequestMap.{open_at};
 
 use crate::read_arrival::read_arrival;
@@ -45,14 +45,7 @@ pub enum ConnEnd {
 ///
 /// The farm is ready for it: neither cache is lent, and no request is open under the number 0, which whole requests
 /// take. It is so again at the end.
-pub fn serve_conn<
-    X: Conn,
-    K: Keeper,
-    S: RegionStore<Page>,
-    C: Clock,
-    L: Lots,
-    W: Wire,
->(
+pub fn serve_conn<X: Conn, K: Keeper, S: RegionStore<Page>, C: Clock, L: Lots, W: Wire>(
     alloc: Global,
     served: &mut ServedFarm<K, S>,
     conn: &mut X,
@@ -65,16 +58,18 @@ pub fn serve_conn<
     // What was read and written, what was heard, and what the farm did.
     ensures served { IsServed (desk_of (X.peer conn.old) served.old.farm)
         (conn_seen (X.peer conn.old) (X.left conn.old) (X.written conn.old) (X.Source.faults conn.old)
-          (X.Sink.faults conn.old))
+        (X.Sink.faults conn.old))
         (conn_seen (X.peer conn.new) (X.left conn.new) (X.written conn.new) (X.Source.faults conn.new)
-          (X.Sink.faults conn.new))
+        (X.Sink.faults conn.new))
         (heard_seen (C.exposed clock.old) (L.exposed lots.old) (W.carried wire.old) (W.refused wire.old)
-          (W.empty wire.old))
+        (W.empty wire.old))
         (heard_seen (C.exposed clock.new) (L.exposed lots.new) (W.carried wire.new) (W.refused wire.new)
-          (W.empty wire.new))
+        (W.empty wire.new))
         (unsent_of served.old.farm served.old.sent) (unsent_of served.new.farm served.new.sent)
         (StandsSent K.content K.faults S.cache served.old.farm served.old.sent)
         (StandsSent K.content K.faults S.cache served.new.farm served.new.sent) (end_of result) }
+    // The farm has its plan, its caches and its replicas as before.
+    ensures shape { SameShape served.old.farm served.new.farm }
     ensures whole { IsWhole served.new.farm }
     ensures free { open_at served.new.farm.requests 0 ≡ None }
     // The keeper's count of faults does not fall.
@@ -82,7 +77,7 @@ pub fn serve_conn<
 {
     let mut kept = Vec::new(alloc);
     let mut answered = 0;
-    loop {
+    'requests: loop {
         let arrival = read_arrival(alloc, conn, &mut kept);
         let reaction = serve_arrival(alloc, served, clock, lots, wire, arrival);
         if let Some(end) = respond(alloc, conn, &reaction, answered + 1) {

@@ -50,7 +50,7 @@ fn send_unsent<K: Keeper, S: RegionStore<Page>, W: Wire>(
         (wire_seen (W.carried wire.old) (W.refused wire.old) (W.empty wire.old))
         (wire_seen (W.carried wire.new) (W.refused wire.new) (W.empty wire.new)) }
 {
-    while let Some(message) = message_after(farm, *sent) {
+    'sending: while let Some(message) = message_after(farm, *sent) {
         match wire.send(message) {
             Ok(()) => *sent += 1,
             Err(_) => return,
@@ -59,10 +59,7 @@ fn send_unsent<K: Keeper, S: RegionStore<Page>, W: Wire>(
 }
 
 /// The message after the first `sent`; None if there is none.
-fn message_after<K: Keeper, S: RegionStore<Page>>(
-    farm: &Farm<K, S>,
-    sent: u64,
-) -> Option<&Message>
+fn message_after<K: Keeper, S: RegionStore<Page>>(farm: &Farm<K, S>, sent: u64) -> Option<&Message>
     ensures some { IfSome result (λ message. (sent < length farm.now.ledger.rows)
         × IsRow farm.now.ledger.rows (sent + 1) (taken_of message.now)) }
     ensures none { IfNone result (length farm.now.ledger.rows ≤ sent) }
@@ -86,7 +83,7 @@ fn carry_taken<K: Keeper, S: RegionStore<Page>, W: Wire>(
         (wire_seen (W.carried wire.new) (W.refused wire.new) (W.empty wire.new)) }
 {
     let mut count = 0;
-    while count < TAKEN_MAX {
+    'taking: while count < TAKEN_MAX {
         match wire.take() {
             Ok(Some(message)) => carry_one(farm, at, message),
             Ok(None) | Err(_) => return,
@@ -145,7 +142,7 @@ fn apply_region<K: Keeper, S: RegionStore<Page>>(
 {
     let count = farm.replicas(region);
     let mut replica = 0;
-    while replica < count {
+    'applying: while replica < count {
         apply_one(farm, at, region, replica, pace);
         replica += 1;
     }

@@ -25,12 +25,13 @@ pub enum Arrival {
 
 /// Reads what comes next. `kept` is what was read after the last request.
 pub(crate) fn read_arrival<X: Conn>(alloc: Global, conn: &mut X, kept: &mut Vec<u8>) -> Arrival
-    ensures { Arrives
+    ensures arrives { Arrives
         (conn_seen (X.peer conn.old) (X.left conn.old) (X.written conn.old) (X.Source.faults conn.old)
-          (X.Sink.faults conn.old))
+        (X.Sink.faults conn.old))
         (conn_seen (X.peer conn.new) (X.left conn.new) (X.written conn.new) (X.Source.faults conn.new)
-          (X.Sink.faults conn.new))
+        (X.Sink.faults conn.new))
         kept.old.items kept.new.items result }
+    ensures peer { X.peer conn.new ≡ X.peer conn.old }
 {
     conn.shows_halves();
     let incoming = read_request(alloc, conn, kept);

@@ -1,14 +1,13 @@
 // The response to an answer: its head, and its body as far as that is no page.
-ghost use Rattle.std.specs.Prelude.{◌≡◌, ◌++◌, map, if◌then◌else◌, [], IfOk, true, false, codes, decimal};
+ghost use Rattle.std.specs.Prelude.{◌≡◌, ◌++◌, ◌∷◌, length, if◌then◌else◌, [], IfOk, OnOk, true, codes};
 ghost use Rattle.std.specs.String.{string_bytes};
-ghost use Rattle.wiki_model.specs.Cookies.{cookies_set};
-ghost use Rattle.wiki_model.specs.Report.{page_of, origin_text, answer_text};
+ghost use Rattle.std.specs.Arc.{arc_value};
+ghost use Rattle.wiki_model.specs.Report.{page_of, origin_text};
 ghost use Rattle.region_state.specs.AsModel.{answer_of};
-ghost use Rattle.region_state.specs.AsModel as region;
 ghost use Rattle.edit_core.specs.AsModel.{saved_of};
-ghost use Rattle.http_reply.specs.Reply.{Reply, answer_bytes, text_line};
+ghost use Rattle.http_reply.specs.Reply.{head_of_length, answer_bytes, text_line};
 ghost use Rattle.http_reply.specs.AsModel.{lines_of, status_of};
-ghost use Rattle.wiki_serve.specs.Replies.{location_of, answer_status, answer_lines, page_lines, saved_lines, answer_reply, unserved_reply, source_lines};
+ghost use Rattle.wiki_serve.specs.Replies.{location_of, answer_status, answer_lines, page_lines, saved_lines, answer_reply, text_reply, unserved_reply, source_lines};
 
 use drill_script::{answer_text, origin_text, page_bytes};
 use farm_base::Memory;
@@ -58,8 +57,17 @@ fn page_head(
     lines: &[(String, String)],
     close: bool,
 ) -> Result<Vec<u8>, Memory>
+    ensures { IfOk result (λ start.
+        start.items ≡ head_of_length 200 true (length (arc_value page.now.page)) (lines_of lines.now) close) }
 {
-    let head = head_of_length(alloc, Status::Ok, true, page.page.bytes().len(), lines, close)?;
+    let head = head_of_length(
+        alloc,
+        Status::Ok,
+        true,
+        page.page.bytes().len(),
+        lines,
+        close,
+    )?;
     Ok(head.into_bytes())
 }
 
@@ -70,6 +78,8 @@ fn text_response(
     head: bool,
     close: bool,
 ) -> Result<Vec<u8>, Memory>
+    ensures { IfOk result (λ bytes.
+        bytes.items ≡ answer_bytes (text_reply (answer_of answer.now) (lines_of lines.items) head close)) }
 {
     let text = answer_text(alloc, false, answer)?;
     let reply = Reply {
@@ -180,6 +190,7 @@ fn push_cookie(
     lines: &mut Vec<(String, String)>,
     value: &str,
 ) -> Result<(), Memory>
+    ensures { OnOk result (lines_of lines.new.items ≡ lines_of lines.old.items ++ (codes "Set-Cookie", value.now) ∷ []) }
 {
     let value = String::from_str(alloc, value)?;
     lines.push((String::from_str(alloc, "Set-Cookie")?, value))?;

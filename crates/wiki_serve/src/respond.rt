@@ -10,9 +10,9 @@ ghost use Rattle.http_reply.specs.AsModel.{refusal_of};
 ghost use Rattle.wiki_serve.specs.Connections.{conn_seen};
 ghost use Rattle.wiki_serve.specs.Reactions.{Responds, reaction_closes, reaction_bytes, page_part, end_after};
 
+use crate::connection::{ConnEnd, REQUESTS_MAX};
 use crate::replies::{answer_start, sent_page, unserved_bytes};
 use crate::serve_arrival::{Answered, Reaction};
-use crate::connection::{ConnEnd, REQUESTS_MAX};
 use farm_base::{Conn, Memory, OutFault, write_all};
 use http_reply::{Refusal, answer_bytes, refusal_reply};
 use std::alloc::Global;
@@ -25,12 +25,13 @@ pub(crate) fn respond<X: Conn>(
     reaction: &Reaction,
     number: u64,
 ) -> Option<ConnEnd>
-    ensures { Responds
+    ensures responds { Responds
         (conn_seen (X.peer conn.old) (X.left conn.old) (X.written conn.old) (X.Source.faults conn.old)
-          (X.Sink.faults conn.old))
+        (X.Sink.faults conn.old))
         (conn_seen (X.peer conn.new) (X.left conn.new) (X.written conn.new) (X.Source.faults conn.new)
-          (X.Sink.faults conn.new))
+        (X.Sink.faults conn.new))
         reaction.now number result }
+    ensures peer { X.peer conn.new ≡ X.peer conn.old }
 {
     if let Reaction::Ended(end) = reaction {
         return Some(*end);

@@ -1,5 +1,5 @@
 // What is done for what was read.
-ghost use Rattle.std.specs.Prelude.{◌≡◌, None, IfOk, option_map};
+ghost use Rattle.std.specs.Prelude.{◌≡◌, ◌≤◌, None, IfOk, option_map};
 ghost use Rattle.std.specs.String.{string_bytes};
 ghost use Rattle.wiki_model.specs.Bytes.{Bytes};
 ghost use Rattle.http_desk.specs.AsModel.{call_shown, request_shown};
@@ -9,15 +9,15 @@ ghost use Rattle.wiki_model.specs.World.Asked.{AskedView, AskedEdit};
 ghost use Rattle.edit_core.specs.AsModel.{edit_of};
 ghost use Rattle.region_state.specs.AsModel.{answer_of, view_of};
 ghost use Rattle.wiki_serve.specs.Housework.{wire_seen, ServesAnswer};
-ghost use Rattle.farm_core.specs.FarmParts.{IsWhole};
+ghost use Rattle.farm_core.specs.FarmParts.{IsWhole, SameShape};
 ghost use Rattle.farm_steps.specs.RequestMap.{open_at};
 
 use crate::asked_steps::{make_edit, make_view};
 use crate::callers::{Visit, client_of, live_cookie, moment_for};
+use crate::connection::ConnEnd;
 use crate::housework::keep_house;
 use crate::read_arrival::Arrival;
 use crate::replies::location_of;
-use crate::connection::ConnEnd;
 use crate::served_farm::ServedFarm;
 use farm_base::{Clock, Lots, Memory, Readings};
 use farm_core::{Answer, EditAsk, Page, ViewAsk};
@@ -55,13 +55,7 @@ pub enum Reaction {
 }
 
 /// Does what a request that was read asks for. If it is out of memory before it begins, nothing is done.
-pub(crate) fn serve_arrival<
-    K: Keeper,
-    S: RegionStore<Page>,
-    C: Clock,
-    L: Lots,
-    W: Wire,
->(
+pub(crate) fn serve_arrival<K: Keeper, S: RegionStore<Page>, C: Clock, L: Lots, W: Wire>(
     alloc: Global,
     served: &mut ServedFarm<K, S>,
     clock: &mut C,
@@ -71,13 +65,16 @@ pub(crate) fn serve_arrival<
 ) -> Reaction
     requires whole { IsWhole served.old.farm }
     requires free { open_at served.old.farm.requests 0 ≡ None }
-    ensures { (peer : Bytes) → Reacts K.content K.faults S.cache peer served.old.farm served.new.farm served.old.sent
+    ensures reacts { (peer : Bytes) → Reacts K.content K.faults S.cache peer served.old.farm served.new.farm served.old.sent
         served.new.sent
         (heard_seen (C.exposed clock.old) (L.exposed lots.old) (W.carried wire.old) (W.refused wire.old)
-          (W.empty wire.old))
+        (W.empty wire.old))
         (heard_seen (C.exposed clock.new) (L.exposed lots.new) (W.carried wire.new) (W.refused wire.new)
-          (W.empty wire.new))
+        (W.empty wire.new))
         arrival result }
+    ensures shape { SameShape served.old.farm served.new.farm }
+    ensures free { open_at served.new.farm.requests 0 ≡ None }
+    ensures counts { K.faults served.old.farm.keeper ≤ K.faults served.new.farm.keeper }
 {
     match arrival {
         Arrival::Ended(end) => Reaction::Ended(end),
@@ -96,13 +93,16 @@ fn serve_visit<K: Keeper, S: RegionStore<Page>, C: Clock, L: Lots, W: Wire>(
 ) -> Reaction
     requires whole { IsWhole served.old.farm }
     requires free { open_at served.old.farm.requests 0 ≡ None }
-    ensures { (peer : Bytes) → IsFrom peer visit → ReactsTo K.content K.faults S.cache (desk_of peer served.old.farm)
+    ensures reacts { (peer : Bytes) → IsFrom peer visit → ReactsTo K.content K.faults S.cache (desk_of peer served.old.farm)
         served.old.farm served.new.farm served.old.sent served.new.sent
         (heard_seen (C.exposed clock.old) (L.exposed lots.old) (W.carried wire.old) (W.refused wire.old)
-          (W.empty wire.old))
+        (W.empty wire.old))
         (heard_seen (C.exposed clock.new) (L.exposed lots.new) (W.carried wire.new) (W.refused wire.new)
-          (W.empty wire.new))
+        (W.empty wire.new))
         visit result }
+    ensures shape { SameShape served.old.farm served.new.farm }
+    ensures free { open_at served.new.farm.requests 0 ≡ None }
+    ensures counts { K.faults served.old.farm.keeper ≤ K.faults served.new.farm.keeper }
 {
     let Ok(location) = location_for(alloc, &visit.request.call) else {
         return Reaction::Ended(ConnEnd::Memory);
@@ -143,11 +143,14 @@ fn serve_call<K: Keeper, S: RegionStore<Page>, L: Lots, W: Wire>(
 ) -> Option<Answer>
     requires whole { IsWhole served.old.farm }
     requires free { open_at served.old.farm.requests 0 ≡ None }
-    ensures { (peer : Bytes) → IsFrom peer visit → DoesCallFor K.content K.faults S.cache (desk_of peer served.old.farm)
+    ensures does { (peer : Bytes) → IsFrom peer visit → DoesCallFor K.content K.faults S.cache (desk_of peer served.old.farm)
         served.old.farm served.new.farm served.old.sent served.new.sent at.now
         (outside_seen (L.exposed lots.old) (W.carried wire.old) (W.refused wire.old) (W.empty wire.old))
         (outside_seen (L.exposed lots.new) (W.carried wire.new) (W.refused wire.new) (W.empty wire.new))
         (request_shown visit.request) (option_map answer_of result) }
+    ensures shape { SameShape served.old.farm served.new.farm }
+    ensures free { open_at served.new.farm.requests 0 ≡ None }
+    ensures counts { K.faults served.old.farm.keeper ≤ K.faults served.new.farm.keeper }
 {
     let now = moment_for(&served.farm, at, &visit.request);
     let cookie = live_cookie(&visit.request, now);

@@ -1,4 +1,4 @@
-use Rattle.std.proofs.Common.{◌≡◌, ◌<◌, ◌++◌, arith, ap, subst, sym, ◌∙◌}
+use Rattle.std.proofs.Common.{◌++◌, arith, ap, subst, sym, ◌∙◌}
 use Rattle.wiki_model.specs.Html.{template_named}
 use Rattle.page_markup.specs.ClosingPlaces.{between}
 use Rattle.page_markup.specs.Names.{AddsNames, listed, named_between, read_as}

@@ -1,4 +1,4 @@
-use Rattle.std.proofs.Common.{◌≡◌, ◌<◌, ◌≤◌, ◌+◌, arith, length, sym, subst}
+use Rattle.std.proofs.Common.{◌<◌, ◌+◌, arith, length, sym, subst}
 use Rattle.std.specs.Prelude.{codes}
 use Rattle.std.proofs.lemmas.List.{length-replicate}
 use Rattle.page_markup.specs.Names.{AreRecent, nothing}

@@ -1,4 +1,4 @@
-use Rattle.std.proofs.Common.{◌≡◌, ◌<◌, ◌+◌, length}
+use Rattle.std.proofs.Common.{◌<◌, ◌+◌, length}
 use Rattle.std.specs.Prelude.{codes}
 use Rattle.page_markup.specs.Mark.{Remembers}
 use Rattle.page_markup.specs.Names.{AreRecent}

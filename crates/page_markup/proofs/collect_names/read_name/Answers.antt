@@ -1,4 +1,4 @@
-use Rattle.std.proofs.Common.{◌≡◌, ◌+◌, length, subst}
+use Rattle.std.proofs.Common.{◌≡◌, length, subst}
 use Rattle.std.specs.Prelude.{codes}
 use Rattle.wiki_model.specs.Html.{bracketed}
 use Rattle.page_markup.specs.ClosingPlaces.{between, cut_within}
