@@ -6,6 +6,7 @@
 //! - `visits`: connections that are served one after another, byte for byte, and handed back;
 //! - `openings`: layouts, histories that are there already, and keepers that fail;
 //! - `endings`: how many connections are served, and a door that has no more or fails;
+//! - `failing_keeper`: a keeper that cannot be made ready;
 //! - `setting`: a door over inputs, and hosting a wiki on it.
 //!
 //! The error of each test is `std::test::Fail`, so that `?` takes every refusal.
@@ -13,6 +14,8 @@
 
 #[cfg(test)]
 mod endings;
+#[cfg(test)]
+mod failing_keeper;
 #[cfg(test)]
 mod openings;
 #[cfg(test)]

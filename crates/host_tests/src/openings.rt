@@ -1,7 +1,8 @@
 // Layouts, histories that are there already, and keepers that fail.
-use crate::setting::{always, door_of, end_by_layout, host_of, host_on, said};
-use farm_base::Clock;
-use revision_keeper::MemKeeper;
+use crate::failing_keeper::FailingKeeper;
+use crate::setting::{always, both, door_of, end_by_layout, host_of, host_on, said};
+use farm_base::{Clock, MemClock};
+use revision_keeper::{Keeper, MemKeeper};
 use std::test::Fail;
 use wiki_host::{HostEnd, Hosted};
 
@@ -48,8 +49,8 @@ fn a_refused_layout_reads_no_clock_and_takes_no_connection(rt: HostRuntime) -> R
     let alloc = rt.alloc();
     let mut door = door_of(alloc, "", "", 0)?;
     let mut coming = Vec::new(alloc);
-    coming.push(crate::setting::both(7))?;
-    let mut clock = farm_base::MemClock::new(coming, crate::setting::both(9));
+    coming.push(both(7))?;
+    let mut clock = MemClock::new(coming, both(9));
     let host = host_of(alloc, MemKeeper::new(alloc), "[home]\nslots = 1\n", 2)?;
     let hosted = host_on(alloc, host, &mut door, &mut clock);
     assert_eq!(rt; hosted.end, HostEnd::BadLayout { rule: 4 });
@@ -80,5 +81,22 @@ fn a_second_hosting_goes_on_with_the_history(rt: HostRuntime) -> Result<(), Fail
     assert_eq!(rt; hosted.end, HostEnd::Served { connections: 1 });
     let text = said(alloc, &door, 0)?;
     assert!(rt; text.as_str().ends_with("<h1>A</h1>\n<p>one</p>\n"));
+    Ok(())
+}
+
+#[test]
+fn a_keeper_that_fails_at_its_start_opens_nothing(rt: HostRuntime) -> Result<(), Fail> {
+    let alloc = rt.alloc();
+    let mut starts = Vec::new(alloc);
+    starts.push(1)?;
+    let mut door = door_of(alloc, READING, "", 0)?;
+    let mut clock = always(alloc, 5_000);
+    // The layout is a faulty one, and is not read.
+    let host = host_of(alloc, FailingKeeper::new(alloc, starts), "[home", 1)?;
+    let Hosted { keeper, end } = host_on(alloc, host, &mut door, &mut clock);
+    assert_eq!(rt; end, HostEnd::StoreFault);
+    assert!(rt; door.returned(0).is_none());
+    let mut keeper = keeper;
+    assert!(rt; matches!(keeper.start(), Ok(())));
     Ok(())
 }

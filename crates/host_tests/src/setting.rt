@@ -1,7 +1,7 @@
 // A door over inputs, and hosting a wiki on it.
-use farm_base::{Clock, MemClock, MemConn, MemDoor, MemLots, Moment, Readings};
+use farm_base::{MemClock, MemConn, MemDoor, MemLots, Moment, Readings};
 use purge_relay::FarmWire;
-use revision_keeper::MemKeeper;
+use revision_keeper::{Keeper, MemKeeper};
 use std::alloc::Global;
 use std::str;
 use std::test::Fail;
@@ -39,12 +39,12 @@ pub fn door_of(alloc: Global, first: &str, second: &str, failing: u64) -> Result
 }
 
 /// A hosting of so many connections by this layout, over this keeper.
-pub fn host_of(
+pub fn host_of<K: Keeper + Drop>(
     alloc: Global,
-    keeper: MemKeeper,
+    keeper: K,
     layout: &str,
     wanted: u64,
-) -> Result<Host<MemKeeper>, Fail> {
+) -> Result<Host<K>, Fail> {
     let mut bytes = Vec::new(alloc);
     bytes.extend_from_slice(layout.as_bytes())?;
     Ok(Host {
@@ -55,12 +55,12 @@ pub fn host_of(
 }
 
 /// Hosts it on the door, with a wire of its own and words that are 0.
-pub fn host_on<C: Clock>(
+pub fn host_on<K: Keeper + Drop>(
     alloc: Global,
-    host: Host<MemKeeper>,
+    host: Host<K>,
     door: &mut MemDoor,
-    clock: &mut C,
-) -> Hosted<MemKeeper> {
+    clock: &mut MemClock,
+) -> Hosted<K> {
     let mut lots = MemLots::new(Vec::new(alloc), 0);
     let mut wire = FarmWire::new(alloc);
     serve_door(alloc, host, door, clock, &mut lots, &mut wire)

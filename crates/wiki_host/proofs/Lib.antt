@@ -1,3 +1,3 @@
-pub mod Visited
-pub mod Opened
-pub mod Hosted
+pub mod OneMoreVisit
+pub mod OpenedFarm
+pub mod WholeHosting

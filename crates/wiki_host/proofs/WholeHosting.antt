@@ -32,24 +32,26 @@ pub closes : {K S : Type 0} (content : K → Option (List Entry)) (faults : K �
     (farm : FarmParts K S) (sent : ℕ) (keeper : K) → keeper ≡ farm.keeper → (start : World) (turns : List Turn) (w : World)
     → StandsSent content faults cache_of farm sent start turns w
     → IsRunOf (keeper_seen (content keeper) (faults keeper)) start turns w
-closes content faults cache_of farm sent keeper same start turns w stands =
-    (stands.stands.run, ap content same ∙ stands.stands.agrees.history,
-      let counted = stands.stands.agrees.counted in
-      subst (λ k. w.faults ≤ faults k) (sym same) counted)
+closes content faults cache_of farm sent keeper same start turns w stands = (
+  stands.stands.run,
+  ap content same ∙ stands.stands.agrees.history,
+  let counted = stands.stands.agrees.counted in
+      subst (λ k. w.faults ≤ faults k) (sym same) counted,
+)
 
 module _ {A : Type 0} (seen : A → Conn) (pace : ℕ) where
   -- a run for which the farm stands is another's as well
   stands_as : (Stood Now Then : Standing) (a b : List ℕ) (visits : List (Visit A))
       → ((start : World) (turns : List Turn) (w : World) → Now start turns w → Then start turns w)
       → GoesOnByVisits seen pace Stood Now a b visits → GoesOnByVisits seen pace Stood Then a b visits
-  stands_as Stood Now Then a b visits as goes start turns v stood =
+  stands_as Stood Now Then a b visits turns_to goes start turns v stood =
       let (w, stands, does) = goes start turns v stood in
-      (w, as start (reverse (visit_turns visits) ++ turns) w stands, does)
+      (w, turns_to start (reverse (visit_turns visits) ++ turns) w stands, does)
 
   visited_as : (da db : DoorSeen A) (ha hb : Heard) (a b : List ℕ) (Stood Now Then : Standing) (n : ℕ)
       → ((start : World) (turns : List Turn) (w : World) → Now start turns w → Then start turns w)
       → HasVisited seen pace da db ha hb a b Stood Now n → HasVisited seen pace da db ha hb a b Stood Then n
-  visited_as da db ha hb a b Stood Now Then n as has = record {
+  visited_as da db ha hb a b Stood Now Then n turns_to has = record {
     visits = has.visits;
     number = has.number;
     so_far = record {
@@ -58,7 +60,7 @@ module _ {A : Type 0} (seen : A → Conn) (pace : ℕ) where
       faults = has.so_far.faults;
       nones = has.so_far.nones;
       heard = has.so_far.heard;
-      goes_on = stands_as Stood Now Then a b has.visits as has.so_far.goes_on;
+      goes_on = stands_as Stood Now Then a b has.visits turns_to has.so_far.goes_on;
     };
   }
 
@@ -68,10 +70,10 @@ module _ {A : Type 0} (seen : A → Conn) (pace : ℕ) where
       → ((start : World) (turns : List Turn) (w : World) → Now start turns w → IsRunOf keeper start turns w)
       → HasVisited seen pace da db ha hb a b Stood Now count → EndsHost wanted da db count end
       → ClosesVisits seen pace wanted da db ha hb a Stood keeper end
-  closes_visits wanted da db ha hb a b Stood Now keeper end count as has ends = record {
+  closes_visits wanted da db ha hb a b Stood Now keeper end count turns_to has ends = record {
     count = count;
     unsent = b;
-    visited = visited_as da db ha hb a b Stood Now (IsRunOf keeper) count as has;
+    visited = visited_as da db ha hb a b Stood Now (IsRunOf keeper) count turns_to has;
     ends = ends;
   }
 
@@ -94,7 +96,7 @@ module _ {A : Type 0} (seen : A → Conn) (wanted : ℕ) (layout : Bytes) (da db
       (visits : List (Visit A))
       → IsOpened content faults cache_of plan (keeper_seen kept_before.history began) first farm sent
       → GoesOnByVisits seen plan.pace (StandsSent content faults cache_of farm sent) (IsRunOf kept_after)
-          (unsent_of farm sent) unsent visits
+      (unsent_of farm sent) unsent visits
       → (history : Option (List Entry)) → kept_before.history ≡ history
       → IfSome history (λ h. IsHostedRun seen plan.pace (host_start plan h began first) first kept_after visits)
   hosted_run content faults cache_of plan began first farm sent unsent visits opened goes None e = tt
@@ -103,7 +105,7 @@ module _ {A : Type 0} (seen : A → Conn) (wanted : ℕ) (layout : Bytes) (da db
       let zero_sent = opened.none_sent in
       let within : sent ≤ length v.messages = omega (arith, zero_sent) in
       let (w, run, leads) = goes (host_start plan h began first) (markup_turn first ∷ []) v
-            (record { stands = stands; within = within }) in
+      (record { stands = stands; within = within }) in
       record {
         opened = v;
         last = record { world = w; unsent = unsent };
@@ -120,7 +122,7 @@ module _ {A : Type 0} (seen : A → Conn) (wanted : ℕ) (layout : Bytes) (da db
       → OpensLayout content faults cache_of layout kept_before before.clock middle.clock farm sent
       → middle ≡ clocked → pace ≡ farm.plan.pace
       → ClosesVisits seen pace wanted da db middle after (unsent_of farm sent)
-          (StandsSent content faults cache_of farm sent) kept_after end
+      (StandsSent content faults cache_of farm sent) kept_after end
       → Hosts seen wanted layout (host_seen da before kept_before) (host_seen db after kept_after) end
   hosting content faults cache_of farm sent pace end opens same is_pace closes = ends end closes.ends
     where
