@@ -8,6 +8,7 @@ use Rattle.wiki_model.specs.Limits.{replicas_max}
 use Rattle.wiki_model.specs.Script.{Line, Spells, MayFollow}
 use Rattle.wiki_model.specs.Script.Line.{FarmLine, BoundsLine, ApplyLine, Open, End}
 use Rattle.drill_script.specs.AsModel.{line_of}
+use Rattle.drill_script.specs.Words.{◌>>=◌}
 use Rattle.drill_script.specs.Forms.{replica_most, line_in}
 use Rattle.drill_script.specs.declared.script_line.ScriptLine.{ScriptLine}
 use Rattle.drill_script.specs.declared.script_state.ScriptState.{ScriptState}

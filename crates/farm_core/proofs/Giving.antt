@@ -15,12 +15,10 @@ use Rattle.wiki_model.specs.World.Event.{Received, Rounded}
 use Rattle.wiki_model.specs.Answers.{Answer}
 use Rattle.wiki_model.specs.HoldOff.{IsIssued}
 use Rattle.wiki_model.specs.Rounds.{rounded, received, batch, MakesRound, IsProperJob}
-use Rattle.wiki_model.specs.Lent.{IsGivenBack}
 use Rattle.wiki_model.specs.Consistent.{IsConsistent}
 use Rattle.wiki_model.specs.Caches.{CacheStands}
 use Rattle.wiki_model.specs.Runs.{with_faults, Leads}
 use Rattle.wiki_model.proofs.StepLaws.{IsReceivable, receipt-is, receivable-later, proper-jobs}
-use Rattle.wiki_model.proofs.RoundLaws.{round-stands}
 use Rattle.wiki_model.proofs.FrameLaws.{stands-grown}
 use Rattle.purge_relay.specs.declared.message.Body.{Body}
 use Rattle.purge_relay.specs.declared.message.Body.TheVariants.{Purge, Position}
@@ -213,10 +211,10 @@ own_site : {S : Type 0} (cache_of : S → CacheMap Bytes) (parts : RegionParts S
 own_site cache_of parts cache v w q fits is stands s =
     site_grown cache_of parts parts.positions (Some cache) v w q [] fits (is.history ∙ sym (append-nil v.history)) is.setting is.markup (is.applied q) (rows_moments v w q (rows_in parts.positions) is.history (is.heard q) (let e = is.moments q in omega (arith, e)) s.positions) refl stands s
 
-pub given_agrees : {K S : Type 0} (content : K → Option (List Entry)) (faults : K → ℕ) (cache_of : S → CacheMap Bytes) (farm : FarmParts K S) (r : Region) (before after : S) (now : ℕ) (jobs : List Job) (lost : Bool) (answers : List Answer) (v : World)
-    → IsConsistent v → Agrees content faults cache_of farm v → now ≡ moment r v → AllByRecursion (IsReceivable v) jobs → CacheStands v r (cache_of before) → IsGivenBack v r jobs lost (batch v r jobs lost answers).rendered (cache_of before) (cache_of after)
+pub given_agrees : {K S : Type 0} (content : K → Option (List Entry)) (faults : K → ℕ) (cache_of : S → CacheMap Bytes) (farm : FarmParts K S) (r : Region) (after : S) (now : ℕ) (jobs : List Job) (lost : Bool) (answers : List Answer) (v : World)
+    → IsConsistent v → Agrees content faults cache_of farm v → now ≡ moment r v → AllByRecursion (IsReceivable v) jobs → CacheStands (rounded r jobs lost answers v) r (cache_of after)
     → Agrees content faults cache_of (with_given r after now (purges_of jobs) farm) (with_faults (faults farm.keeper) (rounded r jobs lost answers v))
-given_agrees {K} {S} content faults cache_of farm r before after now jobs lost answers v fits a at all stood given = record {
+given_agrees {K} {S} content faults cache_of farm r after now jobs lost answers v fits a at all stands = record {
   plan = subst (λ (s : Setting). Rattle.region_state.specs.AsModel.IsPlanOf s farm.plan) (sym is.setting) a.plan;
   opened = (let o = a.opened in subst (λ (s : Setting). s.opened ≤ length u.history) (sym is.setting) (subst (λ (h : List Entry). v.setting.opened ≤ length h) (sym is.history) o));
   history = a.history ∙ ap Some (sym is.history);
@@ -272,9 +270,6 @@ given_agrees {K} {S} content faults cache_of farm r before after now jobs lost a
     same_faults Home n = refl
     same_faults West n = refl
 
-    stands : CacheStands (rounded r jobs lost answers v) r (cache_of after)
-    stands = round-stands v r jobs lost answers (cache_of before) (cache_of after) fits all stood given
-
     to_w : (q : Region) → CacheStands (rounded r jobs lost answers v) q (cache_of after) → CacheStands (with_faults (faults farm.keeper) (rounded r jobs lost answers v)) q (cache_of after)
     to_w Home s = stands-grown (rounded r jobs lost answers v) w Home (cache_of after) (record { more = []; history = sym (append-nil u.history); setting = refl; events = refl; moment = omega arith }) s
     to_w West s = stands-grown (rounded r jobs lost answers v) w West (cache_of after) (record { more = []; history = sym (append-nil u.history); setting = refl; events = refl; moment = omega arith }) s
@@ -303,7 +298,7 @@ rounded_counted r jobs lost answers v all = (round_after r (batch v r jobs lost 
 
 pub give_back_goes : {K S : Type 0} (content : K → Option (List Entry)) (faults : K → ℕ) (cache_of : S → CacheMap Bytes) (old : FarmParts K S) (r : Region) (after : S) (now : ℕ) (purges : List ℕ) (lost : Bool) → now ≡ moment_of r old.moments
     → GivesBack content faults cache_of old (with_given r after now purges old) r after purges lost
-give_back_goes {K} {S} content faults cache_of old r after now purges lost now_is lent at before start turns v jobs answers lent_is there named lost_is stands row given =
+give_back_goes {K} {S} content faults cache_of old r after now purges lost now_is lent at start turns v jobs answers lent_is named lost_is stands row given =
     let u : World = at_readings at v in
     let fits = readings-keep at v (stands-consistent content faults cache_of lent start turns v stands) in
     let farm : FarmParts K S = advanced at lent in
@@ -312,8 +307,7 @@ give_back_goes {K} {S} content faults cache_of old r after now purges lost now_i
     let w : World = with_faults (faults lent.keeper) (rounded r jobs (was_lost answers) (answers_of answers) (at_readings at v)) in
     let all = proper-jobs (at_readings at v) r fits jobs (row_jobs r jobs (at_readings at v) answers x row) in
     let at_now : now ≡ moment r (at_readings at v) = now_is ∙ ap (λ (f : FarmParts K S). moment_of r f.moments) lent_is ∙ moment_is content faults cache_of (advanced at lent) (at_readings at v) a r in
-    let stood : CacheStands (at_readings at v) r (cache_of before) = subst (λ (o : Option S). IfSome o (λ c. CacheStands (at_readings at v) r (cache_of c))) there (site_of content faults cache_of (advanced at lent) (at_readings at v) a r).cache in
-    let agrees = given_agrees content faults cache_of (advanced at lent) r before after now jobs (was_lost answers) (answers_of answers) (at_readings at v) fits a at_now all stood given in
+    let agrees = given_agrees content faults cache_of (advanced at lent) r after now jobs (was_lost answers) (answers_of answers) (at_readings at v) fits a at_now all given in
     let new_is : with_given r after now (purges_of jobs) (advanced at lent) ≡ with_given r after now purges old =
     ap (λ ps. with_given r after now ps (advanced at lent)) named ∙ sym (twice_given r after now purges (advanced at lent)) ∙ ap (with_given r after now purges) (sym lent_is) in
     let fewer = stands.agrees.counted in

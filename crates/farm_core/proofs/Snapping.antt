@@ -106,11 +106,11 @@ pending_is v entries title West pending all is = (λ yes. let no : ⊥ = cc in n
 
 -- the snapshot is one of the world, and has its page
 
-page_of_prefix : (v : World) (title : Title) (s : Snapshot) (reading : ℕ) → IsOf v.history title reading s → HasPage v title s
+pub page_of_prefix : (v : World) (title : Title) (s : Snapshot) (reading : ℕ) → IsOf v.history title reading s → HasPage v title s
 unfolding rendered
 page_of_prefix v title s reading of = record { within = of.within; stamp = of.stamp; page = of.page; text = sym of.text }
 
-snapshot_is : {S : Type 0} (cache_of : S → CacheMap Bytes) (parts : RegionParts S) (v : World) (r : Region) (entries : Entries) (title : Title) (need least word : ℕ) (pending : Bool) (s : Snapped)
+pub snapshot_is : {S : Type 0} (cache_of : S → CacheMap Bytes) (parts : RegionParts S) (v : World) (r : Region) (entries : Entries) (title : Title) (need least word : ℕ) (pending : Bool) (s : Snapped)
     → RegionStands cache_of parts v r → ((id : ℕ) → AgreeAt v (open_at entries id) (request_at v id)) → IsPendingIn r entries title pending → need ≡ least → SnapsIn parts title need word pending (moment r v) s
     → model.IsSnapshot v r title least word (snapshot_of s)
 snapshot_is cache_of parts v r entries title need least word pending s stands all is_pending same snaps = record {

@@ -128,7 +128,7 @@ stored_by v w r old new key snapped page n stands is_cache has shown lag event r
 stored_by v w r old new key snapped page n stands is_cache has shown lag event rule.NoMedium of_is by =
     (subst (IsNote (IsQuiet v r key) rule.NoMedium) (sym by.0) tt, subst (CacheStands w r) (sym by.1) (no_put-stands v w r old _ stands (ap main_life by.0) (ap interim_life by.0) event))
 
-answer_same : (title page : Bytes) (snapped : Snapped) (n : PutNote) (i : ℕ) → ChosenReplica (choice_of snapped.replica snapped.lagged) i
+pub answer_same : (title page : Bytes) (snapped : Snapped) (n : PutNote) (i : ℕ) → ChosenReplica (choice_of snapped.replica snapped.lagged) i
     → answer_of_replica title (snapshot_of snapped) i n page ≡ replica_answer title snapped n page
 answer_same title page snapped n i is =
     ap (λ k. let p : PageAnswer = record { title = title; source = snapped.snapshot.upto; origin = via.Replica k; put = Some n; lagged = is_lagged_choice (choice_of snapped.replica snapped.lagged); page = page } in p) (chosen snapped.replica snapped.lagged i is)

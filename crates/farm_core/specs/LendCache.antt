@@ -8,8 +8,8 @@ use Rattle.wiki_model.specs.Cache.{CacheMap}
 use Rattle.wiki_model.specs.World.{World, Job, at_readings}
 use Rattle.wiki_model.specs.Answers.{Answer}
 use Rattle.wiki_model.specs.Steps.Step.{Round}
-use Rattle.wiki_model.specs.Rounds.{MakesRound, rounded, batch}
-use Rattle.wiki_model.specs.Lent.{IsGivenBack}
+use Rattle.wiki_model.specs.Rounds.{MakesRound, rounded}
+use Rattle.wiki_model.specs.Caches.{CacheStands}
 use Rattle.wiki_model.specs.Runs.{Turn, Leads, Many}
 use Rattle.farm_steps.specs.ViewSteps.{region_at}
 use Rattle.farm_steps.specs.RelaySteps.{received_all}
@@ -50,18 +50,16 @@ abbrev pub round_turn : Readings → Region → List Job → Option (List Answer
 round_turn at r jobs answers = record { at = at; step = Round r jobs; reply = Many answers }
 
 -- Whatever run the farm stood for when the cache was lent, each round after it that receives these purges, is lost or
--- not, and accounts for the cache makes a run for which the farm stands.
+-- not, and leaves a world for which the cache stands makes a run for which the farm stands.
 abbrev pub GivesBack : {K S : Type 0} → (K → Option (List Entry)) → (K → ℕ) → (S → CacheMap Bytes)
     → (old new : FarmParts K S) → Region → (after : S) → (purges : List ℕ) → (lost : Bool) → Type 0
 GivesBack {K} {S} content faults cache_of old new r after purges lost =
-    (lent : FarmParts K S) (at : Readings) (before : S) (start : World) (turns : List Turn) (v : World)
+    (lent : FarmParts K S) (at : Readings) (start : World) (turns : List Turn) (v : World)
     (jobs : List Job) (answers : Option (List Answer))
-    → old ≡ without_cache r (advanced at lent) → (region_at r lent.home lent.west).cache ≡ Some before
+    → old ≡ without_cache r (advanced at lent)
     → purges_of jobs ≡ purges → was_lost answers ≡ lost → Stands content faults cache_of lent start turns v
     → MakesRound r jobs (at_readings at v) answers
     (rounded r jobs (was_lost answers) (answers_of answers) (at_readings at v))
-    → IsGivenBack (at_readings at v) r jobs (was_lost answers)
-    (batch (at_readings at v) r jobs (was_lost answers) (answers_of answers)).rendered
-    (cache_of before) (cache_of after)
+    → CacheStands (rounded r jobs (was_lost answers) (answers_of answers) (at_readings at v)) r (cache_of after)
     → (w : World) × Stands content faults cache_of new start (round_turn at r jobs answers ∷ turns) w
     × Leads v (round_turn at r jobs answers) w × (faults lent.keeper ≤ w.faults)

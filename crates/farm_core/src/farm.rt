@@ -555,6 +555,16 @@ impl<K: Keeper, S: RegionStore<Page>> Farm<K, S> {
         }
     }
 
+    /// A region, as it looks and takes snapshots; its cache is away while it is lent.
+    pub fn region(&self, region: Region) -> &RegionState<S>
+        ensures { result.now ≡ region_at region self.now.home self.now.west }
+    {
+        match region {
+            Region::Home => &self.home,
+            Region::West => &self.west,
+        }
+    }
+
     /// Whether an edit of the title is begun while a view of this region reads it: edits are open at home alone. Its
     /// cost is linear in the open requests.
     pub fn pending(&self, region: Region, title: &Title) -> bool

@@ -28,9 +28,9 @@ abbrev pub value_from : Snapshot → (page : Bytes) → (now life : ℕ) → (la
 value_from s page now life lagged markup =
     record { page = page; upto = s.upto; stamp = s.stamp; set_at = now; life = life; lagged = lagged; version = markup }
 
--- the note of a put; a put that met another's claim does not come here
+-- the note of a put
 abbrev pub NotesPut : Put → (lagged : Bool) → PutNote → Type 0
-NotesPut (put.Busy holder) lagged n = Unit {0}
+NotesPut (put.Busy holder) lagged n = n ≡ note.Busy holder
 NotesPut p lagged n = IsNoteOf p lagged n
 
 -- what is put by each rule, and its note

@@ -13,6 +13,9 @@
 //! Two calls reach beyond the region, `begin` and `commit` of an edit. They stand here since the positions that they
 //! reserve and note are home's, and nobody else may change those.
 //!
+//! The parts of `store` and `receive` stand alone as well, over any cache (`rendered`, `rule_for`, `take_purge` and
+//! others), for a round that works on a cache which is lent.
+//!
 //! What is left to the farm: open requests and their order, the ledger of messages between the regions, which moment a
 //! region has. How a page looks is `page_render`'s, which replica is drawn `load_balancer`'s, what may be stored
 //! `wan_value`'s.
@@ -31,12 +34,12 @@ mod gather_commits;
 mod new_region;
 mod open_view;
 mod plan;
+mod receive_purge;
 mod region_state;
 mod replica_rows;
 mod snap_view;
 mod store_view;
 mod sweep_positions;
-mod take_purge;
 mod wait_view;
 
 pub use answer::{Answer, PageAnswer};
@@ -46,7 +49,9 @@ pub use gather_commits::young_commits;
 pub use open_view::OpenView;
 pub use page_render::Page;
 pub use plan::{FarmPlan, RegionPlan};
+pub use receive_purge::take_purge;
 pub use region_state::RegionState;
 pub use snap_view::{SnapTerms, Snapped};
+pub use store_view::{MadePage, PageRules, answer_from, note_of, rendered, rule_for, value_of};
 pub use wait_view::Wait;
 pub use wiki_model::{Behind, Origin, PutNote};

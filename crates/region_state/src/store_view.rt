@@ -24,7 +24,7 @@ use wiki_titles::{Text, Title};
 
 /// How pages of a region are rendered, and when they may be stored.
 #[derive(Clone, Copy, Debug)]
-pub(crate) struct PageRules {
+pub struct PageRules {
     /// How far a snapshot may lag for its page to be stored whole, in milliseconds.
     pub read_lag: u32,
     /// The number of the markup.
@@ -33,11 +33,11 @@ pub(crate) struct PageRules {
 
 /// A page that was rendered, to be stored at this moment.
 #[derive(Drop)]
-struct MadePage {
-    page: Arc<Page>,
-    at: Moment,
+pub struct MadePage {
+    pub page: Arc<Page>,
+    pub at: Moment,
     /// The markup by which it was read.
-    markup: u8,
+    pub markup: u8,
 }
 
 /// Stores into a region's cache, which is there.
@@ -99,7 +99,7 @@ fn store_at<S: RegionStore<Page>>(
 }
 
 /// The page of a snapshot with a copy of its title, and shared once more for the cache.
-fn rendered(
+pub fn rendered(
     alloc: Global,
     title: &Title,
     text: &Text,
@@ -153,7 +153,7 @@ fn shared(
 }
 
 /// How a page of this snapshot may be stored now, by its lag, by its age, and by an edit that was begun.
-fn rule_for(snapped: &Snapped, now: Moment, read_lag: u32) -> SetRule
+pub fn rule_for(snapped: &Snapped, now: Moment, read_lag: u32) -> SetRule
     ensures { result ≡ set_rule snapped.now.snapshot.lag (now - snapped.now.snapshot.since) snapped.now.pending
         read_lag }
 {
@@ -213,7 +213,7 @@ fn put_under<S: RegionStore<Page>>(
 }
 
 /// The page as a cache keeps it.
-fn value_of(snapshot: &Snapshot, made: MadePage, life: u64, lagged: bool) -> Value<Page>
+pub fn value_of(snapshot: &Snapshot, made: MadePage, life: u64, lagged: bool) -> Value<Page>
     ensures { value_of result ≡ value_from snapshot.now (arc_value made.page) made.at life lagged made.markup }
 {
     Value {
@@ -227,7 +227,8 @@ fn value_of(snapshot: &Snapshot, made: MadePage, life: u64, lagged: bool) -> Val
     }
 }
 
-fn note_of(put: Put, lagged: bool) -> PutNote
+/// What a put's answer says of the page, which was put as lagged or not.
+pub fn note_of(put: Put, lagged: bool) -> PutNote
     ensures { NotesPut put lagged result }
 {
     match put {
@@ -245,7 +246,8 @@ fn note_of(put: Put, lagged: bool) -> PutNote
     }
 }
 
-fn answer_from(title: Title, snapped: &Snapped, note: PutNote, page: Arc<Page>) -> Answer
+/// The answer of a page that was rendered from a snapshot.
+pub fn answer_from(title: Title, snapped: &Snapped, note: PutNote, page: Arc<Page>) -> Answer
     ensures { answer_of result ≡ model.Page (replica_answer title snapped.now note (arc_value page)) }
 {
     Answer::Ok(PageAnswer {

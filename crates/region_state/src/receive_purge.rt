@@ -11,7 +11,7 @@ use wiki_model::Class;
 use wiki_titles::Title;
 
 /// The title is purged. A template or the notice stands on pages of other titles, so its class is touched as well.
-pub(crate) fn take_purge<S: RegionStore<Page>>(cache: &mut S, title: &Title, now: Moment)
+pub fn take_purge<S: RegionStore<Page>>(cache: &mut S, title: &Title, now: Moment)
     requires open { (S.cache cache.old).shared ≡ false }
     requires later { (S.cache cache.old).greatest ≤ now }
     requires small { now ≤ greatest_moment }
