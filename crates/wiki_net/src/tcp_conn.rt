@@ -125,7 +125,10 @@ fn read_within(stream: &mut TcpStream, buf: &mut [u8], left: Option<Duration>) -
 }
 
 // Writes within the time. A write that takes nothing has failed.
-fn write_within(stream: &mut TcpStream, piece: &[u8], left: Option<Duration>) -> Option<usize> {
+fn write_within(stream: &mut TcpStream, piece: &[u8], left: Option<Duration>) -> Option<usize>
+    ensures some { IfSome result (λ n. 0 < n) }
+    ensures bound { IfSome result (λ n. n ≤ length piece.now) }
+{
     let left = left?;
     if stream.set_write_timeout(Some(left)).is_err() {
         return None;
