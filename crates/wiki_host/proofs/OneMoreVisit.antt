@@ -1,12 +1,14 @@
 -- Visits one after another: none, one, and one list after another. Each of the facts about them is a list's, so that of
 -- two lists follows from that of each; what is counted between them only grows.
-use Rattle.std.specs.Prelude.{ℕ, zero, suc, ◌≡◌, ◌⊎◌, ◌<◌, ◌≤◌, ◌+◌, ◌-◌, List, [], ◌∷◌, ◌++◌, length, map, flat_map, reverse, drop, All, Option, Some, None, IfSome, option_map, Result, Ok, Err, refl}
+use Rattle.std.specs.Prelude.{ℕ, zero, suc, ◌≡◌, ◌⊎◌, ◌<◌, ◌≤◌, ◌+◌, ◌-◌, List, [], ◌∷◌, ◌++◌, length, map, flat_map, reverse, drop, if◌then◌else◌, All, Option, Some, None, IfSome, option_map, Result, Ok, Err, refl}
 use Rattle.std.proofs.Common.{arith, sym, ap, subst, ◌∙◌, append_assoc, append-nil, inl, inr}
 use Rattle.std.proofs.lemmas.List.{map-append, length-append}
 use Rattle.std.proofs.lemmas.List.Elements.{All-nil, All-cons, All-append}
 use Rattle.std.proofs.lemmas.Grind.{flat_map-append}
-use Rattle.farm_base.specs.Offered.{Offered, GivesFirst, TakesBack, one_out, one_back}
+use Rattle.farm_base.specs.Causes.{HasCause, counted}
+use Rattle.farm_base.specs.Offered.{Offered, GivesNext, GivesFirst, TakesBack, one_out, one_back, is_none_left}
 use Rattle.farm_base.specs.declared.streams.OutFault.{OutFault}
+use Rattle.farm_core.specs.FarmParts.{FarmParts, SameShape}
 use Rattle.wiki_model.specs.World.{World}
 use Rattle.wiki_model.specs.Steps.{Rose}
 use Rattle.wiki_model.specs.Runs.{Turn}
@@ -24,6 +26,19 @@ use Rattle.wiki_host.specs.declared.door_visits.Next.TheVariants as next
 
 pub rose_later : (a b c : ℕ) → a ≤ b → Rose b c → Rose a c
 rose_later a b c le rose = omega (arith, le, rose)
+
+-- shapes
+
+pub same_shape : {K S : Type 0} (farm : FarmParts K S) → SameShape farm farm
+same_shape farm = record { plan = refl; whole = λ w. w; home = refl; west = refl }
+
+pub shape_again : {K S : Type 0} (a b c : FarmParts K S) → SameShape a b → SameShape b c → SameShape a c
+shape_again a b c first second = record {
+  plan = second.plan ∙ first.plan;
+  whole = λ w. second.whole (first.whole w);
+  home = second.home ∙ first.home;
+  west = second.west ∙ first.west;
+}
 
 -- what is heard of nothing
 
@@ -90,7 +105,6 @@ module _ {A : Type 0} (seen : A → Conn) (pace : ℕ) where
     talks = All-append (IsVisit seen) xs ys first.talks second.talks;
     handed = handed_more da.offered db.offered dc.offered xs ys first.handed second.handed;
     faults = let x = first.faults in let y = second.faults in omega (arith, x, y);
-    nones = let x = first.nones in let y = second.nones in omega (arith, x, y);
     heard = subst (AreHeard ha hc)
         (sym (ap (λ l. services l) (exchanges_more xs ys) ∙ services_more (exchanges_of xs) (exchanges_of ys)))
         (heard_more ha hb hc (services (exchanges_of xs)) (services (exchanges_of ys)) first.heard second.heard);
@@ -108,16 +122,15 @@ module _ {A : Type 0} (seen : A → Conn) (pace : ℕ) where
   )
 
   pub visited_none : (da db : DoorSeen A) (heard : Heard) (unsent : List ℕ) (Stood : Standing)
-      → db.offered ≡ da.offered → da.faults ≤ db.faults → da.nones ≤ db.nones
+      → db.offered ≡ da.offered → da.faults ≤ db.faults
       → HasVisited seen pace da db heard heard unsent unsent Stood Stood 0
-  visited_none da db heard unsent Stood same faults nones = record {
+  visited_none da db heard unsent Stood same faults = record {
     visits = [];
     number = refl;
     so_far = record {
       talks = All-nil (IsVisit seen);
       handed = subst (λ (o : Option (Offered A)). IsHanded da.offered o []) (sym same) (nothing_handed da.offered);
       faults = faults;
-      nones = nones;
       heard = hears_nothing heard;
       goes_on = λ start turns v stood. (v, stood, refl);
     };
@@ -146,10 +159,10 @@ module _ {A : Type 0} (seen : A → Conn) (pace : ℕ) where
   pub visited_one : (da db : DoorSeen A) (before now : Heard) (a b : List ℕ) (Stood Stands : Standing)
       (middle : Option (Offered A)) (came went : A) (end : End)
       → GivesFirst da.offered middle came → TakesBack middle db.offered went
-      → da.faults ≤ db.faults → da.nones ≤ db.nones
+      → da.faults ≤ db.faults
       → IsServed (record { peer = (seen came).peer; pace = pace }) (seen came) (seen went) before now a b Stood Stands end
       → HasVisited seen pace da db before now a b Stood Stands 1
-  visited_one da db before now a b Stood Stands middle came went end gives takes faults nones served =
+  visited_one da db before now a b Stood Stands middle came went end gives takes faults served =
       let visit : Visit A = record { came = came; went = went; exchanges = served.exchanges; end = end } in
       record {
         visits = visit ∷ [];
@@ -158,8 +171,7 @@ module _ {A : Type 0} (seen : A → Conn) (pace : ℕ) where
           talks = All-cons (IsVisit seen) visit [] served.talk (All-nil (IsVisit seen));
           handed = one_handed da.offered middle db.offered came went served.exchanges end gives takes;
           faults = faults;
-          nones = nones;
-          heard = subst (λ (l : List (Exchange Service)). AreHeard before now (services l))
+              heard = subst (λ (l : List (Exchange Service)). AreHeard before now (services l))
               (sym (append-nil served.exchanges)) served.heard;
           goes_on = λ start turns v stood.
               let (w, stands, does) = served.goes_on start turns v stood in (
@@ -171,6 +183,44 @@ module _ {A : Type 0} (seen : A → Conn) (pace : ℕ) where
         };
       }
 
+  -- what a call of the door's next gave
+
+  pub no_visit : (da db : DoorSeen A) (heard : Heard) (unsent : List ℕ) (Stood : Standing)
+      (result : Result (Option A) OutFault) → result ≡ Ok None
+      → GivesNext da.offered db.offered result
+      → db.nones ≡ (if is_none_left result then counted da.nones else da.nones)
+      → HasCause da.faults db.faults result
+      → HasVisited seen pace da db heard heard unsent unsent Stood Stood 0 × Rose da.nones db.nones
+  no_visit da db heard unsent Stood result is gives nones cause =
+      let none = subst (λ (r : Result (Option A) OutFault). GivesNext da.offered db.offered r) is gives in
+      let counts = subst (λ (r : Result (Option A) OutFault). db.nones ≡ (if is_none_left r then counted da.nones else da.nones)) is nones in
+      (visited_none da db heard unsent Stood none.same cause.later, omega (arith, counts))
+
+  pub door_failed : (da db : DoorSeen A) (heard : Heard) (unsent : List ℕ) (Stood : Standing)
+      (result : Result (Option A) OutFault) (fault : OutFault) → result ≡ Err fault
+      → GivesNext da.offered db.offered result → HasCause da.faults db.faults result
+      → HasVisited seen pace da db heard heard unsent unsent Stood Stood 0 × Rose da.faults db.faults
+  door_failed da db heard unsent Stood result fault is gives cause =
+      let same = subst (λ (r : Result (Option A) OutFault). GivesNext da.offered db.offered r) is gives in
+      let failed = subst (λ (r : Result (Option A) OutFault). HasCause da.faults db.faults r) is cause in
+      (visited_none da db heard unsent Stood same cause.later, failed.failed)
+
+  pub came : (da db : DoorSeen A) (before now : Heard) (a b : List ℕ) (Stood Stands : Standing)
+      (middle : Option (Offered A)) (faults nones : ℕ) (result : Result (Option A) OutFault) (given went : A) (end : End)
+      → result ≡ Ok (Some given)
+      → GivesNext da.offered middle result
+      → nones ≡ (if is_none_left result then counted da.nones else da.nones)
+      → HasCause da.faults faults result
+      → TakesBack middle db.offered went → db.nones ≡ nones → db.faults ≡ faults
+      → IsServed (record { peer = (seen given).peer; pace = pace }) (seen given) (seen went) before now a b Stood Stands end
+      → HasVisited seen pace da db before now a b Stood Stands 1 × (db.nones ≡ da.nones)
+  came da db before now a b Stood Stands middle faults nones result given went end is gives counts cause takes same_nones same_faults served =
+      let first = subst (λ (r : Result (Option A) OutFault). GivesNext da.offered middle r) is gives in
+      let still = subst (λ (r : Result (Option A) OutFault). nones ≡ (if is_none_left r then counted da.nones else da.nones)) is counts in
+      let later = cause.later in
+      (visited_one da db before now a b Stood Stands middle given went end first takes (omega (arith, later, same_faults)) served,
+        same_nones ∙ still)
+
   -- one more visit
   pub one_more : (da db dc : DoorSeen A) (ha hb hc : Heard) (a b c : List ℕ) (Stood Middle Now : Standing)
       (n k m : ℕ) → n + k ≡ m
@@ -181,3 +231,47 @@ module _ {A : Type 0} (seen : A → Conn) (pace : ℕ) where
     number = let long = length-append first.visits second.visits in let x = first.number in let y = second.number in omega (arith, long, x, y, is);
     so_far = visited_more da db dc ha hb hc a b c Stood Middle Now first.visits second.visits first.so_far second.so_far;
   }
+
+  -- the loop over the door's connections
+
+  pub visits_begin : (d : DoorSeen A) (heard : Heard) (unsent : List ℕ) (Stood : Standing)
+      → HasVisited seen pace d d heard heard unsent unsent Stood Stood 0
+  visits_begin d heard unsent Stood = visited_none d d heard unsent Stood refl (omega arith)
+
+  pub visits_turn : (da db dc : DoorSeen A) (ha hb hc : Heard) (a b c : List ℕ) (Stood Middle Now : Standing)
+      (n pace_then : ℕ) (result : Result Next OutFault) → result ≡ Ok next.Served → pace_then ≡ pace
+      → HasVisited seen pace da db ha hb a b Stood Middle n → db.nones ≡ da.nones
+      → VisitsNext seen pace_then db dc hb hc b c Middle Now result
+      → HasVisited seen pace da dc ha hc a c Stood Now (n + 1) × (dc.nones ≡ da.nones)
+  visits_turn da db dc ha hb hc a b c Stood Middle Now n pace_then result is same has still visits =
+      let at_pace = subst (λ (p : ℕ). VisitsNext seen p db dc hb hc b c Middle Now result) same visits in
+      let (one, nones) = subst (λ (r : Result Next OutFault). VisitsNext seen pace db dc hb hc b c Middle Now r) is at_pace in
+      (one_more da db dc ha hb hc a b c Stood Middle Now n 1 (n + 1) refl has one, nones ∙ still)
+
+  pub visits_out : (wanted : ℕ) (da db dc : DoorSeen A) (ha hb hc : Heard) (a b c : List ℕ) (Stood Middle Now : Standing)
+      (n pace_then : ℕ) (result : Result Next OutFault) → result ≡ Ok next.NoneLeft → pace_then ≡ pace
+      → HasVisited seen pace da db ha hb a b Stood Middle n → db.nones ≡ da.nones → n < wanted
+      → VisitsNext seen pace_then db dc hb hc b c Middle Now result
+      → VisitsAll seen pace wanted da dc ha hc a c Stood Now (Ok n)
+  visits_out wanted da db dc ha hb hc a b c Stood Middle Now n pace_then result is same has still less visits =
+      let at_pace = subst (λ (p : ℕ). VisitsNext seen p db dc hb hc b c Middle Now result) same visits in
+      let (none, rose) = subst (λ (r : Result Next OutFault). VisitsNext seen pace db dc hb hc b c Middle Now r) is at_pace in
+      record {
+        count = n;
+        visited = one_more da db dc ha hb hc a b c Stood Middle Now n 0 n (omega arith) has none;
+        ends = (refl, (omega (arith, less), inr (subst (λ (k : ℕ). Rose k dc.nones) still rose)));
+      }
+
+  pub visits_fail : (wanted : ℕ) (da db dc : DoorSeen A) (ha hb hc : Heard) (a b c : List ℕ) (Stood Middle Now : Standing)
+      (n pace_then : ℕ) (result : Result Next OutFault) (fault : OutFault) → result ≡ Err fault → pace_then ≡ pace
+      → HasVisited seen pace da db ha hb a b Stood Middle n → n < wanted
+      → VisitsNext seen pace_then db dc hb hc b c Middle Now result
+      → VisitsAll seen pace wanted da dc ha hc a c Stood Now (Err fault)
+  visits_fail wanted da db dc ha hb hc a b c Stood Middle Now n pace_then result fault is same has less visits =
+      let at_pace = subst (λ (p : ℕ). VisitsNext seen p db dc hb hc b c Middle Now result) same visits in
+      let (none, rose) = subst (λ (r : Result Next OutFault). VisitsNext seen pace db dc hb hc b c Middle Now r) is at_pace in
+      record {
+        count = n;
+        visited = one_more da db dc ha hb hc a b c Stood Middle Now n 0 n (omega arith) has none;
+        ends = (less, rose_later da.faults db.faults dc.faults has.so_far.faults rose);
+      }

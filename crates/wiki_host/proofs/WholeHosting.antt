@@ -58,7 +58,6 @@ module _ {A : Type 0} (seen : A → Conn) (pace : ℕ) where
       talks = has.so_far.talks;
       handed = has.so_far.handed;
       faults = has.so_far.faults;
-      nones = has.so_far.nones;
       heard = has.so_far.heard;
       goes_on = stands_as Stood Now Then a b has.visits turns_to has.so_far.goes_on;
     };

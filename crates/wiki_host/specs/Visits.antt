@@ -79,7 +79,6 @@ pub record VisitedSoFar {A : Type 0} (seen : A → Conn) (pace : ℕ) (door_befo
   pub talks : All (IsVisit seen) visits
   pub handed : IsHanded door_before.offered door_now.offered visits
   pub faults : door_before.faults ≤ door_now.faults
-  pub nones : door_before.nones ≤ door_now.nones
   pub heard : AreHeard before now (services (exchanges_of visits))
   pub goes_on : GoesOnByVisits seen pace Stood Now unsent_before unsent_now visits
 
@@ -96,6 +95,7 @@ abbrev pub VisitsNext : {A : Type 0} → (seen : A → Conn) → (pace : ℕ) �
     → Result Next OutFault → Type 0
 VisitsNext seen pace door_before door_now before now unsent_before unsent_now Stood Now (Ok next.Served) =
     HasVisited seen pace door_before door_now before now unsent_before unsent_now Stood Now 1
+    × (door_now.nones ≡ door_before.nones)
 VisitsNext seen pace door_before door_now before now unsent_before unsent_now Stood Now (Ok next.NoneLeft) =
     HasVisited seen pace door_before door_now before now unsent_before unsent_now Stood Now 0
     × Rose door_before.nones door_now.nones
