@@ -171,7 +171,7 @@ module _ {A : Type 0} (seen : A → Conn) (pace : ℕ) where
           talks = All-cons (IsVisit seen) visit [] served.talk (All-nil (IsVisit seen));
           handed = one_handed da.offered middle db.offered came went served.exchanges end gives takes;
           faults = faults;
-              heard = subst (λ (l : List (Exchange Service)). AreHeard before now (services l))
+          heard = subst (λ (l : List (Exchange Service)). AreHeard before now (services l))
               (sym (append-nil served.exchanges)) served.heard;
           goes_on = λ start turns v stood.
               let (w, stands, does) = served.goes_on start turns v stood in (
@@ -217,9 +217,10 @@ module _ {A : Type 0} (seen : A → Conn) (pace : ℕ) where
   came da db before now a b Stood Stands middle faults nones result given went end is gives counts cause takes same_nones same_faults served =
       let first = subst (λ (r : Result (Option A) OutFault). GivesNext da.offered middle r) is gives in
       let still = subst (λ (r : Result (Option A) OutFault). nones ≡ (if is_none_left r then counted da.nones else da.nones)) is counts in
-      let later = cause.later in
-      (visited_one da db before now a b Stood Stands middle given went end first takes (omega (arith, later, same_faults)) served,
-        same_nones ∙ still)
+      let later = cause.later in (
+        visited_one da db before now a b Stood Stands middle given went end first takes (omega (arith, later, same_faults)) served,
+        same_nones ∙ still,
+      )
 
   -- one more visit
   pub one_more : (da db dc : DoorSeen A) (ha hb hc : Heard) (a b c : List ℕ) (Stood Middle Now : Standing)

@@ -4,6 +4,10 @@ use Rattle.std.specs.Prelude.{ℕ, zero, suc, ◌≡◌, ◌⊎◌, ◌<◌, ◌
 use Rattle.std.proofs.Common.{arith, sym, ap, subst, ◌∙◌, inl, inr}
 use Rattle.std.proofs.lemmas.List.{length-map}
 use Rattle.farm_base.specs.Series.{Series, Gives}
+use Rattle.farm_base.specs.declared.streams.OutFault.{OutFault}
+use Rattle.farm_core.specs.declared.farm.NewFault.{NewFault}
+use Rattle.farm_core.specs.declared.farm.NewFault.TheVariants as new
+use Rattle.farm_core.specs.NewFarm.{HasNewFault}
 use Rattle.wiki_model.specs.declared.Readings.{Readings}
 use Rattle.wiki_model.specs.Bytes.{Bytes}
 use Rattle.wiki_model.specs.History.{Entry}
@@ -16,16 +20,16 @@ use Rattle.farm_core.specs.Agreement.{Agrees}
 use Rattle.farm_core.specs.Runs.{Stands}
 use Rattle.purge_relay.specs.AsModel.{row_message}
 use Rattle.wiki_layout.specs.Layout.{Plan, layout_of}
-use Rattle.wiki_serve.specs.Exchanges.{Heard, AreHeard}
+use Rattle.wiki_serve.specs.Exchanges.{Heard, AreHeard, services}
 use Rattle.wiki_serve.specs.Services.{Held, numbers_from}
 use Rattle.wiki_serve.specs.Connections.{Conn}
 use Rattle.wiki_serve.specs.Turns.{Standing, StandsSent, unsent_of}
 use Rattle.wiki_host.specs.declared.host.HostEnd.{HostEnd}
 use Rattle.wiki_host.specs.declared.host.HostEnd.TheVariants as ended
-use Rattle.wiki_host.specs.Visits.{Visit, visit_turns, VisitsLead, DoorSeen, VisitedSoFar, HasVisited, GoesOnByVisits, IsEnough, EndsVisits, VisitsAll}
+use Rattle.wiki_host.specs.Visits.{Visit, exchanges_of, visit_turns, VisitsLead, DoorSeen, VisitedSoFar, HasVisited, GoesOnByVisits, IsEnough, EndsVisits, VisitsAll}
 use Rattle.wiki_host.specs.Opening.{KeeperSeen, keeper_seen, host_start, markup_turn, IsOpened, OpensPlan, OpensLayout}
-use Rattle.wiki_host.specs.Refusals.{RefusesHost, IsRefusal, IsReadOnce, breaks}
-use Rattle.wiki_host.specs.Hosting.{HostSeen, host_seen, IsRunOf, IsHostedRun, IsHosting, IsUntouched, IsOnlyRead, IsUnopened, EndsHost, ClosesVisits, HostsSome, Hosts}
+use Rattle.wiki_host.specs.Refusals.{RefusesHost, IsRefusal, IsReadOnce, breaks, new_end}
+use Rattle.wiki_host.specs.Hosting.{visits_end, HostSeen, host_seen, IsRunOf, IsHostedRun, IsHosting, IsUntouched, IsOnlyRead, IsUnopened, EndsHost, ClosesVisits, HostsSome, Hosts}
 
 -- a farm that is closed leaves the run for which it stood to the keeper
 pub closes : {K S : Type 0} (content : K → Option (List Entry)) (faults : K → ℕ) (cache_of : S → CacheMap Bytes)
@@ -76,18 +80,50 @@ module _ {A : Type 0} (seen : A → Conn) (pace : ℕ) where
     ends = ends;
   }
 
+ends_host : {A : Type 0} (wanted : ℕ) (da db : DoorSeen A) (count : ℕ) (result : Result ℕ OutFault)
+    → EndsVisits wanted da db count result → EndsHost wanted da db count (visits_end result)
+ends_host wanted da db count (Ok n) ends = ends
+ends_host wanted da db count (Err fault) ends = ends
+
+-- all visits of a door, on a farm that is then closed
+pub closed : {A K S : Type 0} (seen : A → Conn) (pace wanted : ℕ) (da db : DoorSeen A) (ha hb : Heard) (a b : List ℕ)
+    (Stood : Standing) (content : K → Option (List Entry)) (faults : K → ℕ) (cache_of : S → CacheMap Bytes)
+    (farm : FarmParts K S) (sent : ℕ) (keeper : K) (result : Result ℕ OutFault) (end : HostEnd)
+    → VisitsAll seen pace wanted da db ha hb a b Stood (StandsSent content faults cache_of farm sent) result
+    → keeper ≡ farm.keeper → end ≡ visits_end result
+    → ClosesVisits seen pace wanted da db ha hb a Stood (keeper_seen (content keeper) (faults keeper)) end
+closed seen pace wanted da db ha hb a b Stood content faults cache_of farm sent keeper result end visits same is =
+    closes_visits seen pace wanted da db ha hb a b Stood (StandsSent content faults cache_of farm sent)
+    (keeper_seen (content keeper) (faults keeper)) end visits.count
+    (closes content faults cache_of farm sent keeper same) visits.visited
+    (subst (λ (e : HostEnd). EndsHost wanted da db visits.count e) (sym is) (ends_host wanted da db visits.count result visits.ends))
+
+-- why no farm was opened at the clocks' reading
+pub new_refused : (Breaks : ℕ → Type 0) (before now : KeeperSeen) (clock_before clock_now : Option (Series Readings)) (first : Readings)
+    (fault : NewFault) (end : HostEnd) → end ≡ new_end fault → HasNewFault before.faults now.faults fault
+    → now.history ≡ before.history → Gives clock_before clock_now first
+    → RefusesHost Breaks before now clock_before clock_now end
+new_refused Breaks before now clock_before clock_now first fault end is cause same gives = record {
+  history = same;
+  why = subst (λ (e : HostEnd). IsRefusal Breaks (Rose before.faults now.faults) clock_before clock_now e) (sym is) (why fault cause);
+}
+  where
+    why : (f : NewFault) → HasNewFault before.faults now.faults f → IsRefusal Breaks (Rose before.faults now.faults) clock_before clock_now (new_end f)
+    why new.Fault rose = (rose, inr (first, gives))
+    why new.Memory later = inr (first, gives)
+
 -- a farm that agrees with a world without messages has none to send
 none_unsent : {K S : Type 0} (farm : FarmParts K S) (sent : ℕ) (w : World) → map row_message farm.ledger.rows ≡ w.messages
     → w.messages ≡ [] → sent ≡ 0 → unsent_of farm sent ≡ []
 none_unsent farm sent w messages none zero_sent =
-    let long = length-map row_message farm.ledger.rows in
+    let long = length-map farm.ledger.rows row_message in
     let same = ap (λ (l : List Message). length l) (messages ∙ none) in
     let empty : length farm.ledger.rows - sent ≡ 0 = omega (arith, long, same, zero_sent) in
     ap (λ n. numbers_from (sent + 1) n) empty
 
 module _ {A : Type 0} (seen : A → Conn) (wanted : ℕ) (layout : Bytes) (da db : DoorSeen A) (before middle after : Heard)
     (kept_before kept_after : KeeperSeen) where
-  clocked : Heard
+  abbrev pub clocked : Heard
   clocked = record before { clock = middle.clock }
 
   hosted_run : {K S : Type 0} (content : K → Option (List Entry)) (faults : K → ℕ) (cache_of : S → CacheMap Bytes)
@@ -112,8 +148,8 @@ module _ {A : Type 0} (seen : A → Conn) (wanted : ℕ) (layout : Bytes) (da db
         leads = subst (λ (l : List ℕ). VisitsLead seen plan.pace visits (record { world = v; unsent = l }) (record { world = w; unsent = unsent }))
             (none_unsent farm sent v stands.agrees.messages none zero_sent) leads;
         run = run.0;
-        history = run.1.0;
-        faults = run.1.1;
+        history = run.1;
+        faults = run.2;
       }
 
   pub hosting : {K S : Type 0} (content : K → Option (List Entry)) (faults : K → ℕ) (cache_of : S → CacheMap Bytes)
@@ -122,15 +158,16 @@ module _ {A : Type 0} (seen : A → Conn) (wanted : ℕ) (layout : Bytes) (da db
       → middle ≡ clocked → pace ≡ farm.plan.pace
       → ClosesVisits seen pace wanted da db middle after (unsent_of farm sent)
       (StandsSent content faults cache_of farm sent) kept_after end
+      → faults farm.keeper ≤ kept_after.faults
       → Hosts seen wanted layout (host_seen da before kept_before) (host_seen db after kept_after) end
-  hosting content faults cache_of farm sent pace end opens same is_pace closes = ends end closes.ends
+  hosting content faults cache_of farm sent pace end opens same is_pace shut counts = ends end shut.ends
     where
       plan : Plan
       plan = opens.plan
 
-      visited : HasVisited seen plan.pace da db middle after (unsent_of farm sent) closes.unsent (StandsSent content faults cache_of farm sent) (IsRunOf kept_after) closes.count
-      visited = subst (λ (p : ℕ). HasVisited seen p da db middle after (unsent_of farm sent) closes.unsent (StandsSent content faults cache_of farm sent) (IsRunOf kept_after) closes.count)
-          (is_pace ∙ opens.opens.opened.pace) closes.visited
+      visited : HasVisited seen plan.pace da db middle after (unsent_of farm sent) shut.unsent (StandsSent content faults cache_of farm sent) (IsRunOf kept_after) shut.count
+      visited = subst (λ (p : ℕ). HasVisited seen p da db middle after (unsent_of farm sent) shut.unsent (StandsSent content faults cache_of farm sent) (IsRunOf kept_after) shut.count)
+          (is_pace ∙ opens.opens.opened.pace) shut.visited
 
       is_hosting : IsHosting seen layout (host_seen da before kept_before) (host_seen db after kept_after) visited.visits
       is_hosting = record {
@@ -139,18 +176,19 @@ module _ {A : Type 0} (seen : A → Conn) (wanted : ℕ) (layout : Bytes) (da db
         first = opens.opens.first;
         coming = middle.clock;
         opened = opens.opens.reads;
-        heard = subst (λ (h : Heard). AreHeard h after _) same visited.so_far.heard;
+        heard = subst (λ (h : Heard). AreHeard h after (services (exchanges_of visited.visits))) same visited.so_far.heard;
         talks = visited.so_far.talks;
         handed = visited.so_far.handed;
         began = opens.began;
         since = opens.since;
-        run = hosted_run content faults cache_of plan opens.began opens.opens.first farm sent closes.unsent visited.visits opens.opens.opened visited.so_far.goes_on kept_before.history refl;
+        counts = let x = opens.opens.opened.counts in let y = counts in omega (arith, x, y);
+        run = hosted_run content faults cache_of plan opens.began opens.opens.first farm sent shut.unsent visited.visits opens.opens.opened visited.so_far.goes_on kept_before.history refl;
       }
 
-      some : (e : HostEnd) → EndsHost wanted da db closes.count e → HostsSome seen layout (host_seen da before kept_before) (host_seen db after kept_after) (λ count. EndsHost wanted da db count e)
+      some : (e : HostEnd) → EndsHost wanted da db shut.count e → HostsSome seen layout (host_seen da before kept_before) (host_seen db after kept_after) (λ count. EndsHost wanted da db count e)
       some e how = (visited.visits, is_hosting, subst (λ (n : ℕ). EndsHost wanted da db n e) (sym visited.number) how)
 
-      ends : (e : HostEnd) → EndsHost wanted da db closes.count e → Hosts seen wanted layout (host_seen da before kept_before) (host_seen db after kept_after) e
+      ends : (e : HostEnd) → EndsHost wanted da db shut.count e → Hosts seen wanted layout (host_seen da before kept_before) (host_seen db after kept_after) e
       ends (ended.Served n) how = some (ended.Served n) how
       ends ended.DoorFault how = some ended.DoorFault how
       ends (ended.BadLayout rule) how = absurd how
@@ -175,5 +213,5 @@ module _ {A : Type 0} (seen : A → Conn) (wanted : ℕ) (layout : Bytes) (da db
       ends (ended.BadLayout rule) (broken, clock) = (broken, untouched clock)
       ends ended.StoreFault (rose, once) = (rose, unopened once)
       ends ended.Memory once = unopened once
-      ends (ended.Served n) no = absurd no
-      ends ended.DoorFault no = absurd no
+      ends (ended.Served n) wrong = absurd wrong
+      ends ended.DoorFault wrong = absurd wrong

@@ -1,6 +1,7 @@
 -- A whole hosting: one run of one farm, from its opening by a layout over the connections of a door.
 use Rattle.std.specs.Prelude.{ℕ, ◌≡◌, ◌⊎◌, ◌<◌, ◌≤◌, List, [], ◌∷◌, ◌++◌, length, reverse, All, Option, Some, IfSome, Result, Ok, Err}
 use Rattle.farm_base.specs.Series.{Series, Gives}
+use Rattle.farm_base.specs.declared.streams.OutFault.{OutFault}
 use Rattle.wiki_model.specs.declared.Readings.{Readings}
 use Rattle.wiki_model.specs.Bytes.{Bytes}
 use Rattle.wiki_model.specs.History.{Entry}
@@ -28,6 +29,10 @@ EndsHost wanted door_before door_now count (ended.Served connections) =
 EndsHost wanted door_before door_now count ended.DoorFault =
     (count < wanted) × Rose door_before.faults door_now.faults
 EndsHost wanted door_before door_now count _ = ⊥
+
+abbrev pub visits_end : Result ℕ OutFault → HostEnd
+visits_end (Ok connections) = ended.Served connections
+visits_end (Err fault) = ended.DoorFault
 
 -- The door's connections were served on a farm that was open, and the farm was closed.
 pub record ClosesVisits {A : Type 0} (seen : A → Conn) (pace wanted : ℕ) (door_before door_now : DoorSeen A)
@@ -73,6 +78,8 @@ pub record IsHosting {A : Type 0} (seen : A → Conn) (layout : Bytes) (before a
   -- what the keeper had counted when the farm was opened
   pub began : ℕ
   pub since : before.keeper.faults ≤ began
+  -- and that the count did not fall
+  pub counts : began ≤ after.keeper.faults
   pub run : IfSome before.keeper.history (λ history.
       IsHostedRun seen plan.pace (host_start plan history began first) first after.keeper visits)
 

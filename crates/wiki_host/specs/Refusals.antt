@@ -1,5 +1,5 @@
 -- What opening a wiki answers: a farm that is ready, or the keeper with why there is none.
-use Rattle.std.specs.Prelude.{ℕ, ◌≡◌, ◌⊎◌, ◌≤◌, Option, Err}
+use Rattle.std.specs.Prelude.{ℕ, ◌≡◌, ◌⊎◌, Option, Err}
 use Rattle.farm_base.specs.Series.{Series, Gives}
 use Rattle.wiki_model.specs.declared.Readings.{Readings}
 use Rattle.wiki_model.specs.Bytes.{Bytes}
@@ -45,7 +45,6 @@ IsRefusal Breaks rose clock_before clock_now _ = ⊥
 pub record RefusesHost (Breaks : ℕ → Type 0) (before now : KeeperSeen)
     (clock_before clock_now : Option (Series Readings)) (end : HostEnd) : Type 0 where
   pub history : now.history ≡ before.history
-  pub later : before.faults ≤ now.faults
   pub why : IsRefusal Breaks (Rose before.faults now.faults) clock_before clock_now end
 
 -- a plan that is allowed is refused by no rule

@@ -7,7 +7,7 @@ ghost use Rattle.wiki_serve.specs.Connections.{conn_seen};
 ghost use Rattle.wiki_serve.specs.Exchanges.{heard_seen};
 ghost use Rattle.wiki_serve.specs.Turns.{StandsSent, unsent_of};
 ghost use Rattle.wiki_host.specs.Visits.{door_seen};
-ghost use Rattle.wiki_host.specs.Hosting.{host_seen, ClosesVisits, Hosts};
+ghost use Rattle.wiki_host.specs.Hosting.{host_seen, visits_end, ClosesVisits, Hosts};
 ghost use Rattle.wiki_host.specs.Opening.{keeper_seen};
 
 use crate::door_visits::{OpenHost, serve_visits};
@@ -79,8 +79,6 @@ pub fn serve_door<D: Door, K: Keeper + Drop, C: Clock, L: Lots, W: Wire>(
         (W.empty wire.new))
         (keeper_seen (K.content result.keeper) (K.faults result.keeper)))
         result.end }
-    // The keeper's count of faults does not fall.
-    ensures counts { K.faults host.keeper ≤ K.faults result.keeper }
 {
     let Host {
         keeper,
@@ -120,11 +118,20 @@ fn serve_open<D: Door, K: Keeper + Drop, C: Clock, L: Lots, W: Wire>(
     ensures counts { K.faults host.served.farm.keeper ≤ K.faults result.keeper }
 {
     let mut host = host;
-    let end = match serve_visits(alloc, &mut host, door, clock, lots, wire) {
-        Ok(connections) => HostEnd::Served { connections },
-        Err(OutFault::Failed) => HostEnd::DoorFault,
-    };
+    let visited = serve_visits(alloc, &mut host, door, clock, lots, wire);
     let OpenHost { served, .. } = host;
     let (keeper, _, _) = served.farm.close();
-    Hosted { keeper, end }
+    Hosted {
+        keeper,
+        end: visits_end(visited),
+    }
+}
+
+fn visits_end(visited: Result<u64, OutFault>) -> HostEnd
+    ensures { result ≡ visits_end visited }
+{
+    match visited {
+        Ok(connections) => HostEnd::Served { connections },
+        Err(OutFault::Failed) => HostEnd::DoorFault,
+    }
 }

@@ -10,19 +10,19 @@ use Rattle.wiki_host.proofs.door_visits.serve_visits.Given as goal
 abbrev pub invariant-loop-connections : goal.invariant-loop-connections
 invariant-loop-connections g l =
     HasVisited
-      (λ conn. conn_seen (g.D.C.Conn.peer conn) (g.D.C.Source.left conn) (g.D.C.Sink.written conn)
-        (g.D.C.Source.faults conn) (g.D.C.Sink.faults conn))
-      l.fn.host.served.farm.plan.pace
-      (door_seen (g.D.Door.offered l.fn.door) (g.D.Door.faults l.fn.door) (g.D.Door.nones l.fn.door))
-      (door_seen (g.D.Door.offered l.door) (g.D.Door.faults l.door) (g.D.Door.nones l.door))
-      (heard_seen (g.C.Clock.exposed l.fn.clock) (g.L.Lots.exposed l.fn.lots) (g.W.Wire.carried l.fn.wire)
-        (g.W.Wire.refused l.fn.wire) (g.W.Wire.empty l.fn.wire))
-      (heard_seen (g.C.Clock.exposed l.clock) (g.L.Lots.exposed l.lots) (g.W.Wire.carried l.wire)
-        (g.W.Wire.refused l.wire) (g.W.Wire.empty l.wire))
-      (unsent_of l.fn.host.served.farm l.fn.host.served.sent) (unsent_of l.host.served.farm l.host.served.sent)
-      (StandsSent g.K.Keeper.content g.K.Keeper.faults g.S.RegionStore.cache l.fn.host.served.farm l.fn.host.served.sent)
-      (StandsSent g.K.Keeper.content g.K.Keeper.faults g.S.RegionStore.cache l.host.served.farm l.host.served.sent)
-      l.connections
+    (λ conn. conn_seen (g.D.C.Conn.peer conn) (g.D.C.Source.left conn) (g.D.C.Sink.written conn)
+    (g.D.C.Source.faults conn) (g.D.C.Sink.faults conn))
+    l.fn.host.served.farm.plan.pace
+    (door_seen (g.D.Door.offered l.fn.door) (g.D.Door.faults l.fn.door) (g.D.Door.nones l.fn.door))
+    (door_seen (g.D.Door.offered l.door) (g.D.Door.faults l.door) (g.D.Door.nones l.door))
+    (heard_seen (g.C.Clock.exposed l.fn.clock) (g.L.Lots.exposed l.fn.lots) (g.W.Wire.carried l.fn.wire)
+    (g.W.Wire.refused l.fn.wire) (g.W.Wire.empty l.fn.wire))
+    (heard_seen (g.C.Clock.exposed l.clock) (g.L.Lots.exposed l.lots) (g.W.Wire.carried l.wire)
+    (g.W.Wire.refused l.wire) (g.W.Wire.empty l.wire))
+    (unsent_of l.fn.host.served.farm l.fn.host.served.sent) (unsent_of l.host.served.farm l.host.served.sent)
+    (StandsSent g.K.Keeper.content g.K.Keeper.faults g.S.RegionStore.cache l.fn.host.served.farm l.fn.host.served.sent)
+    (StandsSent g.K.Keeper.content g.K.Keeper.faults g.S.RegionStore.cache l.host.served.farm l.host.served.sent)
+    l.connections
     × (g.D.Door.nones l.door ≡ g.D.Door.nones l.fn.door)
     × IsWhole l.host.served.farm
     × (open_at l.host.served.farm.requests 0 ≡ None)
