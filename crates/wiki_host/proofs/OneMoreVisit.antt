@@ -1,7 +1,7 @@
 -- Visits one after another: none, one, and one list after another. Each of the facts about them is a list's, so that of
 -- two lists follows from that of each; what is counted between them only grows.
-use Rattle.std.specs.Prelude.{ℕ, zero, suc, ◌≡◌, ◌⊎◌, ◌<◌, ◌≤◌, ◌+◌, ◌-◌, List, [], ◌∷◌, ◌++◌, length, map, flat_map, reverse, drop, if◌then◌else◌, All, Option, Some, None, IfSome, option_map, Result, Ok, Err, refl}
-use Rattle.std.proofs.Common.{arith, sym, ap, subst, ◌∙◌, append_assoc, append-nil, inl, inr}
+use Rattle.std.specs.Prelude.{ℕ, ◌≡◌, ◌<◌, ◌≤◌, ◌+◌, ◌-◌, List, [], ◌∷◌, ◌++◌, map, reverse, drop, if◌then◌else◌, Option, Some, None, IfSome, option_map, Result, Ok, Err, refl}
+use Rattle.std.proofs.Common.{arith, sym, ap, subst, ◌∙◌, append_assoc, append-nil, inr}
 use Rattle.std.proofs.lemmas.List.{map-append, length-append}
 use Rattle.std.proofs.lemmas.List.Elements.{All-nil, All-cons, All-append}
 use Rattle.std.proofs.lemmas.Grind.{flat_map-append}
@@ -9,16 +9,15 @@ use Rattle.farm_base.specs.Causes.{HasCause, counted}
 use Rattle.farm_base.specs.Offered.{Offered, GivesNext, GivesFirst, TakesBack, one_out, one_back, is_none_left}
 use Rattle.farm_base.specs.declared.streams.OutFault.{OutFault}
 use Rattle.farm_core.specs.FarmParts.{FarmParts, SameShape}
-use Rattle.wiki_model.specs.World.{World}
 use Rattle.wiki_model.specs.Steps.{Rose}
 use Rattle.wiki_model.specs.Runs.{Turn}
 use Rattle.purge_relay.specs.Carried.{Carried}
 use Rattle.wiki_serve.specs.Exchanges.{Exchange, Service, Heard, AreHeard, with_messages, services, turns_of}
-use Rattle.wiki_serve.specs.Services.{Held, DoesOne, DoesAll}
-use Rattle.wiki_serve.specs.Connections.{Conn, End, Talks, IsServed}
+use Rattle.wiki_serve.specs.Services.{Held}
+use Rattle.wiki_serve.specs.Connections.{Conn, End, IsServed}
 use Rattle.wiki_serve.specs.Turns.{Standing}
 use Rattle.wiki_serve.proofs.OneMore.{services_more, turns_more, heard_more}
-use Rattle.wiki_host.specs.Visits.{Visit, exchanges_of, visit_turns, IsVisit, desk_at, VisitsLead, GoesOnByVisits, IsHanded, DoorSeen, VisitedSoFar, HasVisited, IsEnough, EndsVisits, VisitsAll, VisitsNext}
+use Rattle.wiki_host.specs.Visits.{Visit, exchanges_of, visit_turns, IsVisit, VisitsLead, GoesOnByVisits, IsHanded, DoorSeen, VisitedSoFar, HasVisited, VisitsAll, VisitsNext}
 use Rattle.wiki_host.specs.declared.door_visits.Next.{Next}
 use Rattle.wiki_host.specs.declared.door_visits.Next.TheVariants as next
 

@@ -1,21 +1,19 @@
 -- A farm that was opened by a layout's plan, and then set to the second markup, stands for the run of that turn alone:
 -- the opening gives the run of no step, and the step goes on with it. Nothing was issued, so no message is there.
-use Rattle.std.specs.Prelude.{ℕ, ◌≡◌, ◌<◌, ◌≤◌, ◌+◌, ◌*◌, ◌&&◌, Bool, true, false, List, [], ◌∷◌, length, Option, Some, None, Result, Ok, Err, IfOk, IfErr, nat_le, nat_lt, refl}
-use Rattle.std.proofs.Common.{arith, sym, ap, subst, ◌∙◌, inl, inr}
+use Rattle.std.specs.Prelude.{ℕ, ◌≡◌, ◌<◌, ◌≤◌, ◌&&◌, Bool, true, false, List, [], length, Option, None, Result, Ok, Err, IfOk, refl}
+use Rattle.std.proofs.Common.{arith, sym, ap, subst, ◌∙◌}
 use Rattle.wiki_model.specs.declared.Region.{Region}
 use Rattle.wiki_model.specs.declared.Region.TheVariants.{Home, West}
 use Rattle.wiki_model.specs.declared.Readings.{Readings}
 use Rattle.wiki_model.specs.Bytes.{Bytes}
 use Rattle.wiki_model.specs.Titles.{Title}
 use Rattle.wiki_model.specs.History.{Entry}
-use Rattle.wiki_model.specs.Limits as model
-use Rattle.wiki_model.specs.Limits.{hold_off, bound_max}
+use Rattle.wiki_model.specs.Limits.{hold_off}
 use Rattle.wiki_model.specs.Cache.{CacheMap, IsEmptyCache}
-use Rattle.wiki_model.specs.World.{World, Setting, Message, at_readings}
-use Rattle.wiki_model.specs.Steps.{Step}
+use Rattle.wiki_model.specs.World.{World}
 use Rattle.wiki_model.specs.Steps.Step.{SetMarkup}
-use Rattle.wiki_model.specs.Runs.{Turn, Leads, opening, with_faults}
-use Rattle.farm_base.specs.AsModel.{bounds_of, are_allowed}
+use Rattle.wiki_model.specs.Runs.{Leads, opening}
+use Rattle.farm_base.specs.AsModel.{bounds_of}
 use Rattle.slot_cache.specs.Slots.{same_slot}
 use Rattle.region_state.specs.AsModel.{IsPlanOf}
 use Rattle.region_state.specs.declared.plan.FarmPlan.{FarmPlan}
@@ -23,11 +21,11 @@ use Rattle.farm_steps.specs.RequestMap.{Entries, open_at}
 use Rattle.farm_core.specs.FarmParts.{FarmParts}
 use Rattle.farm_core.specs.NewFarm.{IsFresh, IsCacheOf, Opens}
 use Rattle.farm_core.specs.RequestLife.{LeavesRequests}
-use Rattle.farm_core.specs.Runs.{Stands, Steps, turn_of}
-use Rattle.wiki_layout.specs.Layout.{Plan, setting_of}
+use Rattle.farm_core.specs.Runs.{Steps, turn_of}
+use Rattle.wiki_layout.specs.Layout.{setting_of}
 use Rattle.wiki_layout.specs.AsModel.{plan_of}
 use Rattle.wiki_layout.specs.ReadLayout.{IsAllowed}
-use Rattle.wiki_host.specs.Opening.{slots_for, together_in, host_start, markup_turn, IsLaidCache, keeper_seen, IsOpened}
+use Rattle.wiki_host.specs.Opening.{slots_for, together_in, IsLaidCache, keeper_seen, IsOpened}
 
 -- what a layout's bounds keep
 

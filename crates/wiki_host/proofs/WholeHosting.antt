@@ -1,6 +1,6 @@
 -- A hosting as a whole: the farm that was opened stands for the run of the markup's turn, in which no message is there,
 -- and the visits go on with it to a run whose last world has what the keeper has.
-use Rattle.std.specs.Prelude.{ℕ, zero, suc, ◌≡◌, ◌⊎◌, ◌<◌, ◌≤◌, ◌+◌, ◌-◌, List, [], ◌∷◌, ◌++◌, length, map, reverse, Option, Some, None, IfSome, Result, Ok, Err, refl}
+use Rattle.std.specs.Prelude.{ℕ, ◌≡◌, ◌≤◌, ◌+◌, ◌-◌, List, [], ◌∷◌, ◌++◌, length, map, reverse, Option, Some, None, IfSome, Result, Ok, Err, refl}
 use Rattle.std.proofs.Common.{arith, sym, ap, subst, ◌∙◌, inl, inr}
 use Rattle.std.proofs.lemmas.List.{length-map}
 use Rattle.farm_base.specs.Series.{Series, Gives}
@@ -14,22 +14,20 @@ use Rattle.wiki_model.specs.History.{Entry}
 use Rattle.wiki_model.specs.Cache.{CacheMap}
 use Rattle.wiki_model.specs.World.{World, Message}
 use Rattle.wiki_model.specs.Steps.{Rose}
-use Rattle.wiki_model.specs.Runs.{Turn, IsRun}
+use Rattle.wiki_model.specs.Runs.{Turn}
 use Rattle.farm_core.specs.FarmParts.{FarmParts}
-use Rattle.farm_core.specs.Agreement.{Agrees}
-use Rattle.farm_core.specs.Runs.{Stands}
 use Rattle.purge_relay.specs.AsModel.{row_message}
-use Rattle.wiki_layout.specs.Layout.{Plan, layout_of}
+use Rattle.wiki_layout.specs.Layout.{Plan}
 use Rattle.wiki_serve.specs.Exchanges.{Heard, AreHeard, services}
-use Rattle.wiki_serve.specs.Services.{Held, numbers_from}
+use Rattle.wiki_serve.specs.Services.{numbers_from}
 use Rattle.wiki_serve.specs.Connections.{Conn}
 use Rattle.wiki_serve.specs.Turns.{Standing, StandsSent, unsent_of}
 use Rattle.wiki_host.specs.declared.host.HostEnd.{HostEnd}
 use Rattle.wiki_host.specs.declared.host.HostEnd.TheVariants as ended
-use Rattle.wiki_host.specs.Visits.{Visit, exchanges_of, visit_turns, VisitsLead, DoorSeen, VisitedSoFar, HasVisited, GoesOnByVisits, IsEnough, EndsVisits, VisitsAll}
-use Rattle.wiki_host.specs.Opening.{KeeperSeen, keeper_seen, host_start, markup_turn, IsOpened, OpensPlan, OpensLayout}
+use Rattle.wiki_host.specs.Visits.{Visit, exchanges_of, visit_turns, VisitsLead, DoorSeen, HasVisited, GoesOnByVisits, EndsVisits, VisitsAll}
+use Rattle.wiki_host.specs.Opening.{KeeperSeen, keeper_seen, host_start, markup_turn, IsOpened, OpensLayout}
 use Rattle.wiki_host.specs.Refusals.{RefusesHost, IsRefusal, IsReadOnce, breaks, new_end}
-use Rattle.wiki_host.specs.Hosting.{visits_end, HostSeen, host_seen, IsRunOf, IsHostedRun, IsHosting, IsUntouched, IsOnlyRead, IsUnopened, EndsHost, ClosesVisits, HostsSome, Hosts}
+use Rattle.wiki_host.specs.Hosting.{visits_end, host_seen, IsRunOf, IsHostedRun, IsHosting, IsUntouched, IsUnopened, EndsHost, ClosesVisits, HostsSome, Hosts}
 
 -- a farm that is closed leaves the run for which it stood to the keeper
 pub closes : {K S : Type 0} (content : K → Option (List Entry)) (faults : K → ℕ) (cache_of : S → CacheMap Bytes)

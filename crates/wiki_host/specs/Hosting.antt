@@ -4,10 +4,9 @@ use Rattle.farm_base.specs.Series.{Series, Gives}
 use Rattle.farm_base.specs.declared.streams.OutFault.{OutFault}
 use Rattle.wiki_model.specs.declared.Readings.{Readings}
 use Rattle.wiki_model.specs.Bytes.{Bytes}
-use Rattle.wiki_model.specs.History.{Entry}
 use Rattle.wiki_model.specs.World.{World}
 use Rattle.wiki_model.specs.Steps.{Rose}
-use Rattle.wiki_model.specs.Runs.{Turn, IsRun}
+use Rattle.wiki_model.specs.Runs.{IsRun}
 use Rattle.wiki_layout.specs.Layout.{Plan, layout_of}
 use Rattle.wiki_serve.specs.Exchanges.{Heard, AreHeard, services}
 use Rattle.wiki_serve.specs.Services.{Held}

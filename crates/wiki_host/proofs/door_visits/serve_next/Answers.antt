@@ -1,4 +1,4 @@
-use Rattle.std.proofs.Common.{◌∙◌, ap, Ok, Some, None, ◌≡◌}
+use Rattle.std.proofs.Common.{◌∙◌, ap, Ok}
 use Rattle.wiki_serve.specs.AsModel.{end_of}
 use Rattle.wiki_host.proofs.OneMoreVisit.{came, no_visit, door_failed}
 use Rattle.wiki_host.proofs.door_visits.serve_next.Goals as goal

@@ -1,6 +1,5 @@
-use Rattle.std.proofs.Common.{◌≡◌, ◌≤◌, ◌∙◌, ap, Ok, arith, refl}
+use Rattle.std.proofs.Common.{◌∙◌, ap, Ok, arith, refl}
 use Rattle.region_state.specs.declared.plan.FarmPlan.{FarmPlan}
-use Rattle.farm_core.specs.FarmParts.{FarmParts, SameShape}
 use Rattle.wiki_host.proofs.OneMoreVisit.{visits_begin, visits_turn, visits_out, visits_fail, same_shape, shape_again}
 use Rattle.wiki_host.proofs.door_visits.serve_visits.Goals as goal
 
