@@ -1,0 +1,84 @@
+// A door over inputs, and hosting a wiki on it.
+use farm_base::{MemClock, MemConn, MemDoor, MemLots, Moment, Readings};
+use purge_relay::FarmWire;
+use revision_keeper::{Keeper, MemKeeper};
+use std::alloc::Global;
+use std::str;
+use std::test::Fail;
+use wiki_host::{Host, HostEnd, Hosted, serve_door};
+
+/// Both clocks read this.
+pub fn both(milliseconds: u64) -> Readings {
+    Readings {
+        home: Moment(milliseconds),
+        west: Moment(milliseconds),
+    }
+}
+
+/// Both clocks always read this.
+pub fn always(alloc: Global, milliseconds: u64) -> MemClock {
+    MemClock::new(Vec::new(alloc), both(milliseconds))
+}
+
+/// A connection over this input, which moves at most 4,096 bytes a call; no call fails.
+pub fn conn_of(alloc: Global, input: &str) -> Result<MemConn, Fail> {
+    let mut bytes = Vec::new(alloc);
+    bytes.extend_from_slice(input.as_bytes())?;
+    let peer = String::from_str(alloc, "192.0.2.7")?;
+    Ok(MemConn::new(alloc, bytes, peer, 4_096, Vec::new(alloc), Vec::new(alloc)))
+}
+
+/// A door over two connections with these inputs; the call of `next` of this number fails, or none if it is 0.
+pub fn door_of(alloc: Global, first: &str, second: &str, failing: u64) -> Result<MemDoor, Fail> {
+    let mut conns = Vec::new(alloc);
+    conns.push(conn_of(alloc, first)?)?;
+    conns.push(conn_of(alloc, second)?)?;
+    let mut calls = Vec::new(alloc);
+    calls.push(failing)?;
+    Ok(MemDoor::new(conns, calls))
+}
+
+/// A hosting of so many connections by this layout, over this keeper.
+pub fn host_of<K: Keeper + Drop>(
+    alloc: Global,
+    keeper: K,
+    layout: &str,
+    wanted: u64,
+) -> Result<Host<K>, Fail> {
+    let mut bytes = Vec::new(alloc);
+    bytes.extend_from_slice(layout.as_bytes())?;
+    Ok(Host {
+        keeper,
+        layout: bytes,
+        wanted,
+    })
+}
+
+/// Hosts it on the door, with a wire of its own and words that are 0.
+pub fn host_on<K: Keeper + Drop>(
+    alloc: Global,
+    host: Host<K>,
+    door: &mut MemDoor,
+    clock: &mut MemClock,
+) -> Hosted<K> {
+    let mut lots = MemLots::new(Vec::new(alloc), 0);
+    let mut wire = FarmWire::new(alloc);
+    serve_door(alloc, host, door, clock, &mut lots, &mut wire)
+}
+
+/// How a hosting by this layout ended, over an empty history at 5,000, with two connections that ask for nothing.
+pub fn end_by_layout(alloc: Global, layout: &str) -> Result<HostEnd, Fail> {
+    let mut door = door_of(alloc, "", "", 0)?;
+    let mut clock = always(alloc, 5_000);
+    let host = host_of(alloc, MemKeeper::new(alloc), layout, 2)?;
+    let Hosted { end, .. } = host_on(alloc, host, &mut door, &mut clock);
+    Ok(end)
+}
+
+/// What was written over the connection that the door gave at this place, counted from 0, once it was handed back.
+pub fn said(alloc: Global, door: &MemDoor, place: usize) -> Result<String, Fail> {
+    match door.returned(place) {
+        Some(conn) => Ok(String::from_str(alloc, str::from_utf8(conn.written())?)?),
+        None => Err(Fail::new("it was not handed back")),
+    }
+}

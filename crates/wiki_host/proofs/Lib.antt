@@ -1,0 +1,3 @@
+pub mod OneMoreVisit
+pub mod OpenedFarm
+pub mod WholeHosting

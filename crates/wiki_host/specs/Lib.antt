@@ -1,0 +1,4 @@
+pub mod Visits
+pub mod Opening
+pub mod Refusals
+pub mod Hosting
