@@ -1,16 +1,19 @@
-//! The program `wiki`: its words, its streams, its network, its clock and its memory are the process's own. All that it
+//! The program `wiki`: its words, its streams, its files, its network, its clock and its memory are the process's own. All that it
 //! does and answers is `wiki_cli`'s; here the words are read, and a status becomes the process's.
 #![tactic(auto)]
 
+use host_keeper::HostKeeper;
 use purge_relay::FarmWire;
 use revision_keeper::MemKeeper;
+use sqlite::Connection;
+use sqlite_keeper::SqliteKeeper;
 use std::alloc::Global;
 use std::net::{Net, TcpListener, TcpStream};
 use std::process::ExitCode;
 use std::rt::Env;
 use std::time::Clock;
 use std::{env, io};
-use wiki_cli::{Outside, Reading, Writing, refuse_words, run};
+use wiki_cli::{Outside, Reading, Writing, refuse_words, run, store_of};
 use wiki_net::{SystemClock, SystemLots, TcpDoor};
 
 /// Where a served wiki listens.
@@ -41,6 +44,14 @@ where
     TcpDoor::shut(rt, alloc)
 }
 
+// The file for the history that the words name.
+fn store(words: &io::Result<Vec<String>>) -> Option<&str> {
+    match words {
+        Ok(words) => store_of(words),
+        Err(_) => None,
+    }
+}
+
 fn main(rt: HostRuntime) -> ExitCode {
     let alloc = rt.alloc();
     let words = words(&rt);
@@ -48,11 +59,16 @@ fn main(rt: HostRuntime) -> ExitCode {
     if let Ok(address) = door.address() {
         let _ = eprintln!(rt; "wiki: http://{address}/wiki/Main_Page");
     }
+    // A file that could not be opened is answered by each call of its keeper.
+    let keeper = match store(&words) {
+        Some(path) => HostKeeper::Stored(SqliteKeeper::new(alloc, Connection::open(&rt, path))),
+        None => HostKeeper::Memory(MemKeeper::new(alloc)),
+    };
     let mut outside = Outside {
         source: Reading::new(rt.reader()),
         sink: Writing::new(io::writer(&rt)),
         door,
-        keeper: Some(MemKeeper::new(alloc)),
+        keeper: Some(keeper),
         clock: SystemClock::new(&rt),
         lots: SystemLots::new(&rt),
         wire: FarmWire::new(alloc),

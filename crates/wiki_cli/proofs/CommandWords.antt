@@ -1,6 +1,6 @@
 -- The words of a command are read exactly: what is read is the command, and the words of a command are read as it. So words are
 -- never those of two commands.
-use Rattle.std.proofs.Common.{◌≡◌, ℕ, ◌-◌, Bool, true, false, cond, List, [], ◌∷◌, Option, None, Some, refl, sym, ap, subst, ◌∙◌, arith, codes, decimal, bytes_eq, String, Global}
+use Rattle.std.proofs.Common.{◌≡◌, ℕ, ◌-◌, Bool, true, false, cond, List, [], ◌∷◌, Option, None, Some, refl, sym, ap, subst, ◌∙◌, arith, codes, decimal, drop, bytes_eq, String, Global}
 use Rattle.std.specs.Prelude.{option_and_then, option_map}
 use Rattle.std.proofs.lemmas.Option.{none-some, same_Some}
 use Rattle.std.proofs.lemmas.Slice.Eq.{bytes_eq-Decides}
@@ -11,7 +11,7 @@ use Rattle.wiki_layout.specs.Options.{options_read, OptionsAre}
 use Rattle.wiki_layout.proofs.AtMostOnce.{read_exact, same_options}
 use Rattle.drill_script.specs.Words.{number_of}
 use Rattle.drill_script.proofs.WordsExact.{number_read, number_said}
-use Rattle.wiki_cli.specs.Command.{word_texts, command_of, AreWordsOf, AreServeTexts, AreServeWords, AreNoCommand, ReadsCommand, drill_in, stir_in, stir_numbers, script_by, script_in, serve_of, serve_in, serve_or_script, command_in}
+use Rattle.wiki_cli.specs.Command.{word_texts, command_of, AreWordsOf, AreServeTexts, AreServeWords, AreNoCommand, NamesStore, ReadsCommand, drill_in, stir_in, stir_numbers, script_by, script_in, serve_of, serve_in, store_by, store_after, after_serve, serve_or_script, command_in}
 use Rattle.wiki_cli.specs.declared.command.Command.{Command}
 use Rattle.wiki_cli.specs.declared.command.Command.TheVariants as command
 use Rattle.wiki_cli.specs.declared.command.ScriptCommand.{ScriptCommand}
@@ -157,3 +157,42 @@ not_none words (command.Serve n) is none = none.1 n is
 
 pub same_serve : (a b : ℕ) → command.Serve a ≡ command.Serve b → b ≡ a
 same_serve a b is = cc
+
+-- the file for the history
+
+abbrev StoreFor : (rest : List Bytes) → Option Bytes → Type 0
+StoreFor rest (Some path) = (options : Options) × AreOptions options rest × (options.link ≡ false) × (options.store ≡ Some path)
+StoreFor rest None = (options : Options) → AreOptions options rest → options.link ≡ false → options.store ≡ None
+
+store_for : (rest : List Bytes) (found : Option Options) → OptionsAre rest found → StoreFor rest (option_and_then store_by found)
+store_for rest None are = λ options is link. absurd (are options is)
+store_for rest (Some q) are = by q.link refl
+  where
+    same : (options : Options) → AreOptions options rest → q ≡ options
+    same options is = same_options rest q options are is
+
+    stored : (store : Option Bytes) → q.store ≡ store → q.link ≡ false → StoreFor rest store
+    stored None e h = λ options is link. sym (ap (λ (o : Options). o.store) (same options is)) ∙ e
+    stored (Some path) e h = (q, are, h, e)
+
+    by : (t : Bool) → q.link ≡ t → StoreFor rest (cond t None q.store)
+    by true h = λ options is link. let wrong : true ≡ false = sym h ∙ ap (λ (o : Options). o.link) (same options is) ∙ link in absurd (let z : ⊥ = cc in z)
+    by false h = stored q.store refl h
+
+store_named : (texts rest : List Bytes) (o : Option Bytes) → after_serve texts ≡ Some rest → StoreFor rest o → NamesStore texts o
+store_named [] rest o e found = absurd (none-some rest e)
+store_named (word ∷ texts) rest o e found = by (bytes_eq word (codes "serve")) refl e
+  where
+    named : texts ≡ rest → word ≡ codes "serve" → (o : Option Bytes) → StoreFor rest o → NamesStore (word ∷ texts) o
+    named is serve (Some path) (options, are, link, store) = (options, (rest, (ap (λ w. w ∷ texts) serve ∙ ap (λ ts. codes "serve" ∷ ts) is), are), link, store)
+    named is serve None found = λ options (more, e, are) link. found options (subst (λ ts. AreOptions options ts) (let after : more ≡ texts = ap (λ ts. drop 1 ts) (sym e) in after ∙ is) are) link
+
+    by : (t : Bool) → bytes_eq word (codes "serve") ≡ t → cond t (Some texts) None ≡ Some rest → NamesStore (word ∷ texts) o
+    by true h e = named (same_Some texts rest e) (same_bytes word (codes "serve") h) o found
+    by false h e = absurd (none-some rest e)
+
+pub no_serve : (texts : List Bytes) → None ≡ after_serve texts → NamesStore texts None
+no_serve texts e = λ options (rest, is, are) link. absurd (none-some rest (e ∙ ap after_serve is))
+
+pub store_said : (texts rest : List Bytes) (o : Option Bytes) → Some rest ≡ after_serve texts → o ≡ store_after rest → NamesStore texts o
+store_said texts rest o e is = store_named texts rest o (sym e) (subst (StoreFor rest) (sym is) (store_for rest (options_read rest) (read_exact rest)))

@@ -32,6 +32,13 @@ AreServeTexts connections texts =
 abbrev pub AreServeWords : (connections : ℕ) → List (String Global) → Type 0
 AreServeWords connections words = AreServeTexts connections (word_texts words)
 
+-- the texts are `serve` with this file for the history, or with none or no `serve` at all
+abbrev pub NamesStore : (texts : List Bytes) → Option Bytes → Type 0
+NamesStore texts (Some path) =
+    (options : Options) × IsCommand (model.Serve options) texts × (options.link ≡ false) × (options.store ≡ Some path)
+NamesStore texts None =
+    (options : Options) → IsCommand (model.Serve options) texts → options.link ≡ false → options.store ≡ None
+
 -- the words are no command
 abbrev pub AreNoCommand : List (String Global) → Type 0
 AreNoCommand words =
@@ -86,6 +93,13 @@ after_serve (word ∷ rest) = if bytes_eq word (codes "serve") then Some rest el
 abbrev pub serve_or_script : Option (List Bytes) → (texts : List Bytes) → Option Command
 serve_or_script (Some rest) texts = serve_in rest
 serve_or_script None texts = option_map command.Script (script_in texts)
+
+-- the file for the history
+abbrev pub store_by : Options → Option Bytes
+store_by options = if options.link then None else options.store
+
+abbrev pub store_after : (rest : List Bytes) → Option Bytes
+store_after rest = option_and_then store_by (options_read rest)
 
 -- the command of these texts
 abbrev pub command_in : List Bytes → Option Command

@@ -23,7 +23,7 @@ abbrev pub ServesEnough : {A : Type 0} → (seen : A → Conn) → (wanted : ℕ
     → (before after : HostSeen A) → (ℕ → Type 0) → Type 0
 ServesEnough seen wanted layout before after Written =
     HostsSome seen layout before after (λ count.
-      IsEnough wanted before.door.nones after.door.nones count × Written count)
+    IsEnough wanted before.door.nones after.door.nones count × Written count)
 
 -- A wiki of this layout was served, or why not, and what is written of it. `failed` says that a write failed.
 abbrev pub Serves : {A : Type 0} → (seen : A → Conn) → (wanted : ℕ) → (layout : Bytes) → (before after : HostSeen A)

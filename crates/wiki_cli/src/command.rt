@@ -1,7 +1,7 @@
 // The command words.
 ghost use Rattle.std.specs.Prelude.{◌≡◌, ◌≤◌, IfSome, option_map};
 ghost use Rattle.drill_script.specs.Words.{number_of};
-ghost use Rattle.wiki_cli.specs.Command.{ReadsCommand, word_texts, command_in, after_serve, serve_in, script_in, script_by, drill_in, stir_in};
+ghost use Rattle.wiki_cli.specs.Command.{ReadsCommand, NamesStore, word_texts, command_in, after_serve, store_after, serve_in, script_in, script_by, drill_in, stir_in};
 
 use drill_script::number_of;
 use wiki_layout::read_options;
@@ -72,6 +72,28 @@ fn read_serve(words: &[String]) -> Option<Command>
     Some(Command::Serve {
         connections: options.connections,
     })
+}
+
+/// The file that keeps the history of the wiki that these words serve, for whoever makes the keeper; none if the history
+/// ends with the process, or if the words are no command `serve`. It takes no memory.
+#[tactic(auto, using(crate::proofs::CommandWords::no_serve, crate::proofs::CommandWords::store_said))]
+pub fn store_of(words: &[String]) -> Option<&str>
+    ensures { NamesStore (word_texts words.now) (option_map (λ path. path.now) result) }
+{
+    match after_serve(words) {
+        Some(rest) => store_after(rest),
+        None => None,
+    }
+}
+
+fn store_after(words: &[String]) -> Option<&str>
+    ensures { option_map (λ path. path.now) result ≡ store_after (word_texts words.now) }
+{
+    let options = read_options(words)?;
+    if options.link {
+        return None;
+    }
+    options.store
 }
 
 #[tactic(auto, using(crate::proofs::CommandWords::by_texts))]

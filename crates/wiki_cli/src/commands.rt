@@ -21,10 +21,10 @@ ghost use Rattle.wiki_cli.specs.declared.status.Status.TheVariants.{Ok as Done, 
 
 use crate::Status;
 use crate::command::{Command, ScriptCommand};
+use crate::outside::Outside;
 use crate::refuse::{refuse, refuse_line, refuse_not_empty};
 use crate::run_farm::{Ended, STORE_FAULT};
 use crate::run_script::{drill_on, stir_on};
-use crate::outside::Outside;
 use crate::script_farm::new_caches;
 use crate::serve_wiki::serve_wiki;
 use drill_script::{SCRIPT_MAX, ScriptFault, read_script};
