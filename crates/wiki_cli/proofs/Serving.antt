@@ -138,6 +138,7 @@ module _ {A : Type 0} (seen : A → Conn) (wanted : ℕ) (a b : Bytes) (same : l
     handed = h.handed;
     began = h.began;
     since = h.since;
+    counts = h.counts;
     run = h.run;
   }
 
@@ -185,6 +186,7 @@ module _ {A : Type 0} (seen : A → Conn) (wanted : ℕ) (layout : Bytes) (door 
     handed = h.handed;
     began = h.began;
     since = let since = h.since in omega (arith, up, since);
+    counts = h.counts;
     run = h.run;
   }
 
