@@ -196,3 +196,12 @@ no_serve texts e = λ options (rest, is, are) link. absurd (none-some rest (e �
 
 pub store_said : (texts rest : List Bytes) (o : Option Bytes) → Some rest ≡ after_serve texts → o ≡ store_after rest → NamesStore texts o
 store_said texts rest o e is = store_named texts rest o (sym e) (subst (StoreFor rest) (sym is) (store_for rest (options_read rest) (read_exact rest)))
+
+pub store_none : (rest : List Bytes) → OptionsAre rest None → None ≡ store_after rest
+store_none rest are = ap (option_and_then store_by) (one_reading rest None (options_read rest) are (read_exact rest))
+
+pub store_link : (rest : List Bytes) (o : Options) → OptionsAre rest (Some o) → o.link ≡ true → None ≡ store_after rest
+store_link rest o are link = sym (ap (λ t. cond t None o.store) link) ∙ ap (option_and_then store_by) (one_reading rest (Some o) (options_read rest) are (read_exact rest))
+
+pub store_found : (rest : List Bytes) (o : Options) → OptionsAre rest (Some o) → o.link ≡ false → o.store ≡ store_after rest
+store_found rest o are link = sym (ap (λ t. cond t None o.store) link) ∙ ap (option_and_then store_by) (one_reading rest (Some o) (options_read rest) are (read_exact rest))
