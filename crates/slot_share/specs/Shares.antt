@@ -2,7 +2,7 @@
 use Rattle.std.specs.Prelude.{ℕ, ◌≡◌, ◌⊎◌, ◌+◌, ◌<◌, ◌≤◌, List, [], length, slice_get, Some, None, Contains}
 use Rattle.atomic_table.specs.Table.{Me}
 use Rattle.atomic_table.specs.Seated.{TableId}
-use Rattle.wan_cache.specs.MapCache.{hold_off_max}
+use Rattle.wiki_model.specs.Limits.{hold_off_max}
 use Rattle.slot_cache.specs.declared.slot_parts.SlotParts.{SlotParts}
 use Rattle.slot_share.specs.declared.part.Part.{Part}
 use Rattle.slot_share.specs.declared.view.Handed.{Handed}
