@@ -8,6 +8,8 @@
 //! - `beside_plain`: a cache and the list of keys in `plain`, by random calls;
 //! - `slots`: which slot of the cache of fixed slots a title has;
 //! - `neighbors`: what two titles of one slot, and of two, see of each other;
+//! - `shares`: what several seats of one cache see of each other, and what is left when they are done;
+//! - `crew`: a shared cache with its seats, for those tests;
 //! - `ledger`: messages, their numbers and receipts;
 //! - `wires`: messages on their way, by plan;
 //! - `timed`: a store with the moment that it is called at, which the tests of a cache share;
@@ -19,6 +21,8 @@
 #[cfg(test)]
 mod beside_plain;
 #[cfg(test)]
+mod crew;
+#[cfg(test)]
 mod eviction;
 #[cfg(test)]
 mod ledger;
@@ -28,6 +32,8 @@ mod neighbors;
 mod plain;
 #[cfg(test)]
 mod setting;
+#[cfg(test)]
+mod shares;
 #[cfg(test)]
 mod slots;
 #[cfg(test)]

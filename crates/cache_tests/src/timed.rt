@@ -1,6 +1,7 @@
 // A store of cached pages with the moment that it is called at.
 ghost use Rattle.std.specs.Prelude.{◌≡◌, ◌≢◌, ◌≤◌};
 ghost use Rattle.wiki_model.specs.Cache.{IsEmptyCache};
+ghost use Rattle.cache_tests.specs.Timed.{IsReady};
 
 use crate::setting::value_at;
 use farm_base::Moment;
@@ -35,7 +36,8 @@ pub enum Seen {
     Memory,
 }
 
-fn shown(look: &Look<u64>) -> Seen {
+/// What this look shows.
+pub fn shown(look: &Look<u64>) -> Seen {
     match look {
         Look::Hit(value) => Seen::Hit(*value.page),
         Look::Interim(value) => Seen::Interim(*value.page),
@@ -53,6 +55,20 @@ impl<C: RegionStore<u64> + Drop> Timed<C> {
             store,
             now: Moment(0),
         }
+    }
+
+    /// The store at this moment.
+    pub fn at(store: C, now: Moment) -> Timed<C>
+        requires { IsReady (C.RegionStore.cache store) now }
+    {
+        Timed { store, now }
+    }
+
+    /// The store, and the moment that it is called at.
+    pub fn into_parts(self) -> (C, Moment)
+        ensures { IsReady (C.RegionStore.cache result.0) result.1 }
+    {
+        (self.store, self.now)
     }
 
     /// The moment at which the next call is made.

@@ -2,10 +2,12 @@
 use Rattle.std.proofs.Common.{◌≡◌, ℕ, ◌+◌, ◌≤◌, arith, Bool, List, [], ◌∷◌, Option, Some, None, refl, sym, ap, subst, ◌∙◌}
 use Rattle.wiki_model.specs.declared.Readings.{Readings}
 use Rattle.wiki_model.specs.Bytes.{Bytes}
-use Rattle.wiki_model.specs.Titles.{Title}
+use Rattle.wiki_model.specs.declared.Region.{Region}
+use Rattle.wiki_model.specs.Cookies.{region_of_host}
+use Rattle.wiki_model.specs.Titles.{Title, Client}
 use Rattle.wiki_model.specs.History.{Entry, Edit}
 use Rattle.wiki_model.specs.Cache.{CacheMap}
-use Rattle.wiki_model.specs.World.{World, Asked, View}
+use Rattle.wiki_model.specs.World.{World, Asked, View, Cookie}
 use Rattle.wiki_model.specs.World.Asked.{AskedView, AskedEdit}
 use Rattle.wiki_model.specs.Answers as model
 use Rattle.wiki_model.specs.Answers.{Answer}
@@ -20,7 +22,7 @@ use Rattle.farm_steps.specs.RequestMap.{open_at}
 use Rattle.farm_core.specs.Agreement.{Agrees}
 use Rattle.wiki_serve.specs.Exchanges.{Answered, Unserved, Service}
 use Rattle.wiki_serve.specs.Replies.{location_of, answer_reply}
-use Rattle.wiki_serve.specs.Callers.{Desk, region_of, moment_for, view_for, edit_for}
+use Rattle.wiki_serve.specs.Callers.{Desk, region_of, moment_for, view_for, edit_for, live_cookie, client_of_cookie, client_for, stranger_of}
 use Rattle.wiki_serve.specs.Services.{DoesCall}
 use Rattle.wiki_serve.specs.Turns.{FitsAsked, MakesAnswer}
 use Rattle.wiki_serve.specs.Housework.{WireSeen, DoesHousework, ServesAsked, ServesAnswer}
@@ -40,6 +42,26 @@ located (EditCall asked base token body) text title a is to head close = ap (λ 
 located (BatchCall titles) text title a is to head close = absurd to
 located (FeedCall from) text title a is to head close = absurd to
 located (MessagesCall from) text title a is to head close = absurd to
+
+-- the view of a request, and its edit, as they are put together
+
+pub view_same : (desk : Desk) (now after word : ℕ) (request : Request) (title : Title) (host : Region) (client stranger : Client) (cookie : Option Cookie)
+    → now ≡ after → host ≡ region_of_host request.host → cookie ≡ live_cookie now request → client ≡ client_of_cookie cookie stranger → stranger ≡ stranger_of desk.peer request.agent
+    → (let view : View = record { host = host; client = client; cookie = cookie; use_master = request.cookies.use_master; word = word; title = title } in view) ≡ view_for desk after request word title
+view_same desk now after word request title host client stranger cookie now_is host_is cookie_is client_is from =
+    let kept : cookie ≡ live_cookie after request = cookie_is ∙ ap (λ (n : ℕ). live_cookie n request) now_is in
+    let named : client ≡ client_for desk after request = client_is ∙ ap (λ (k : Option Cookie). client_of_cookie k stranger) kept ∙ ap (client_of_cookie (live_cookie after request)) from in
+    ap (λ (h : Region). let view : View = record { host = h; client = client; cookie = cookie; use_master = request.cookies.use_master; word = word; title = title } in view) host_is
+    ∙ ap (λ (c : Client). let view : View = record { host = region_of_host request.host; client = c; cookie = cookie; use_master = request.cookies.use_master; word = word; title = title } in view) named
+    ∙ ap (λ (k : Option Cookie). let view : View = record { host = region_of_host request.host; client = client_for desk after request; cookie = k; use_master = request.cookies.use_master; word = word; title = title } in view) kept
+
+pub edit_same : (desk : Desk) (now after base : ℕ) (request : Request) (title : Title) (token text : Bytes) (client stranger : Client) (cookie : Option Cookie)
+    → now ≡ after → cookie ≡ live_cookie now request → client ≡ client_of_cookie cookie stranger → stranger ≡ stranger_of desk.peer request.agent
+    → (let edit : Edit = record { client = client; token = token; title = title; base = base; text = text } in edit) ≡ edit_for desk after request title base token text
+edit_same desk now after base request title token text client stranger cookie now_is cookie_is client_is from =
+    let kept : cookie ≡ live_cookie after request = cookie_is ∙ ap (λ (n : ℕ). live_cookie n request) now_is in
+    let named : client ≡ client_for desk after request = client_is ∙ ap (λ (k : Option Cookie). client_of_cookie k stranger) kept ∙ ap (client_of_cookie (live_cookie after request)) from in
+    ap (λ (c : Client). let edit : Edit = record { client = c; token = token; title = title; base = base; text = text } in edit) named
 
 module _ {K S : Type 0} (content : K → Option (List Entry)) (faults : K → ℕ) (cache_of : S → CacheMap Bytes) where
   pub page_called : (desk : Desk) (old new : FarmParts K S) (sent_old sent_new : ℕ) (at : Readings) (lots lots_now : Option (Series ℕ)) (before now : WireSeen) (request : Request) (word : ℕ) (title : Title) (view : View) (result : Option Answer)

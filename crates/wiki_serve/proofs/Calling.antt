@@ -77,7 +77,7 @@ module _ {K S : Type 0} (content : K → Option (List Entry)) (faults : K → �
       by West = ap (λ (m : ℕ). Rattle.std.specs.Prelude.max m (Rattle.wiki_model.specs.World.cut at.west)) a.west_moment
 
   rows_long : (farm : FarmParts K S) (w : World) → Agrees content faults cache_of farm w → length farm.ledger.rows ≡ length w.messages
-  rows_long farm w a = sym (length-map row_message farm.ledger.rows) ∙ ap (λ (ms : List Message). length ms) a.messages
+  rows_long farm w a = sym (length-map farm.ledger.rows row_message) ∙ ap (λ (ms : List Message). length ms) a.messages
 
   -- what is done for one request, from what was sent, the call that was made and the messages that only grow
   one_done : (desk : Desk) (old new : FarmParts K S) (sent_old sent_new : ℕ) (request : Request) (service : Service) (v w : World)

@@ -14,19 +14,20 @@ use Rattle.wiki_model.specs.Steps.{Step}
 use Rattle.wiki_model.specs.Runs.{Turn}
 use Rattle.wiki_model.specs.Serving.{GoesBy, AllMade, Taken, carries, is_due, is_past, beats, beat_if, applies, applies_from, Housekeeps}
 use Rattle.farm_base.specs.Causes.{counted}
-use Rattle.purge_relay.specs.Carried.{Carried}
-use Rattle.purge_relay.specs.AsModel.{body_of}
+use Rattle.purge_relay.specs.Carried.{Carried, with_sent}
+use Rattle.purge_relay.specs.AsModel.{body_of, message_of, maybe_taken}
 use Rattle.purge_relay.specs.declared.message.Message.{Message}
 use Rattle.purge_relay.specs.declared.ledger_row.LedgerRow.{LedgerRow}
 use Rattle.farm_steps.specs.ViewSteps.{region_at}
 use Rattle.farm_steps.specs.RequestMap.{open_at}
+use Rattle.replica_apply.specs.Replica.{ReplicaState}
 use Rattle.farm_core.specs.FarmParts.{FarmParts, SameShape}
 use Rattle.farm_core.specs.Agreement.{Agrees, last_beat_in}
 use Rattle.farm_core.specs.Runs.{Stands}
 use Rattle.wiki_serve.specs.Exchanges.{with_messages, as_message}
 use Rattle.wiki_serve.specs.Services.{numbers_from}
 use Rattle.wiki_serve.specs.Turns.{MakesTurns, MakesStep}
-use Rattle.wiki_serve.specs.Housework.{WireSeen, counted_if, IsRow, AreRows, SendsTo, IsSending, SendsAll, TakesSome, IsTaking, TakesAll, BeatsIfDue, applies_to, AppliesTo, KeepsHouse, DoesHousework}
+use Rattle.wiki_serve.specs.Housework.{WireSeen, taken_of, counted_if, IsRow, AreRows, SendsTo, IsSending, SendsAll, TakesSome, IsTaking, TakesAll, BeatsIfDue, applies_to, AppliesTo, KeepsHouse, DoesHousework}
 use Rattle.wiki_serve.proofs.OneMore.{carried_more, numbers_more}
 use Rattle.wiki_serve.proofs.Steps.{turn, all_none, all_one, all_joined, none_made, made_joined, shapes}
 
@@ -59,6 +60,19 @@ sends_none rows sent wire = record {
     empty = refl;
   };
 }
+
+-- what a wire carries after one message was sent, after one was taken, and after none was
+pub sent_one : (o : Option Carried) (m : Message) → option_map (with_sent (message_of m)) o ≡ option_map (with_messages (taken_of m ∷ []) []) o
+sent_one None m = refl
+sent_one (Some c) m = ap (λ l. Some (let d : Carried = record { sent = c.sent ++ message_of m ∷ []; taken = l } in d)) (sym (append-nil c.taken))
+
+pub taken_one : (o : Option Carried) (m : Message) → option_map (maybe_taken (Some m)) o ≡ option_map (with_messages [] (taken_of m ∷ [])) o
+taken_one None m = refl
+taken_one (Some c) m = ap (λ l. Some (let d : Carried = record { sent = l; taken = c.taken ++ message_of m ∷ [] } in d)) (sym (append-nil c.sent))
+
+pub taken_none : (o : Option Carried) → option_map (maybe_taken None) o ≡ o
+taken_none None = refl
+taken_none (Some c) = refl
 
 -- one more was sent
 pub sends_more : (rows : List LedgerRow) (before now : ℕ) (old mid new : WireSeen) (t : Taken) → IsSending rows before now old mid → IsRow rows (now + 1) t → now < length rows
@@ -129,7 +143,7 @@ applies_is r pace i (n ∷ numbers) = ap (λ l. Step.Apply r i pace ∷ l) (appl
 -- Beats
 
 -- the first, or else the second
-or_else : Option ℕ → Option ℕ → Option ℕ
+abbrev or_else : Option ℕ → Option ℕ → Option ℕ
 or_else None last = last
 or_else (Some stamp) last = Some stamp
 
@@ -163,21 +177,21 @@ module _ {K S : Type 0} (content : K → Option (List Entry)) (faults : K → �
 
   pub beat_made : (old new : FarmParts K S) (at : Readings) (due : Bool) → due ≡ is_past (max old.moments.home (cut at.home)) old.last_beat → due ≡ true → MakesStep content faults cache_of old new at Step.MakeBeat
       → BeatsIfDue content faults cache_of old new at
-  beat_made old new at due is yes step = record {
+  beat_made old new at due is due_now step = record {
     turns = turn at Step.MakeBeat step.said ∷ [];
     made = step.made;
     due = true;
     are = all_one at Step.MakeBeat step.said;
-    is = λ w a. due_is old w at a ∙ sym is ∙ yes;
+    is = λ w a. due_is old w at a ∙ sym is ∙ due_now;
   }
 
   pub beat_left : (farm : FarmParts K S) (at : Readings) (due : Bool) → due ≡ is_past (max farm.moments.home (cut at.home)) farm.last_beat → due ≡ false → BeatsIfDue content faults cache_of farm farm at
-  beat_left farm at due is no = record {
+  beat_left farm at due is not_due = record {
     turns = [];
     made = none_made content faults cache_of farm;
     due = false;
     are = all_none at;
-    is = λ w a. due_is farm w at a ∙ sym is ∙ no;
+    is = λ w a. due_is farm w at a ∙ sym is ∙ not_due;
   }
 
   -- Taking
@@ -272,8 +286,8 @@ module _ {K S : Type 0} (content : K → Option (List Entry)) (faults : K → �
   applied_long : (farm : FarmParts K S) (w : World) (pace : ℕ) → Agrees content faults cache_of farm w
       → applies w pace ≡ applies_to Home pace 0 (length farm.home.replicas) ++ applies_to West pace 0 (length farm.west.replicas)
   applied_long farm w pace a =
-      let home : length w.home.applied ≡ length farm.home.replicas = ap (λ (l : List ℕ). length l) (sym a.home.applied) ∙ length-map (λ k. k.applied) farm.home.replicas in
-      let west : length w.west.applied ≡ length farm.west.replicas = ap (λ (l : List ℕ). length l) (sym a.west.applied) ∙ length-map (λ k. k.applied) farm.west.replicas in
+      let home : length w.home.applied ≡ length farm.home.replicas = ap (λ (l : List ℕ). length l) (sym a.home.applied) ∙ length-map farm.home.replicas (λ (k : ReplicaState). k.applied) in
+      let west : length w.west.applied ≡ length farm.west.replicas = ap (λ (l : List ℕ). length l) (sym a.west.applied) ∙ length-map farm.west.replicas (λ (k : ReplicaState). k.applied) in
       ap (λ l. l ++ applies_from West pace 0 w.west.applied) (applies_is Home pace 0 w.home.applied ∙ ap (applies_to Home pace 0) home)
       ∙ ap (λ l. applies_to Home pace 0 (length farm.home.replicas) ++ l) (applies_is West pace 0 w.west.applied ∙ ap (applies_to West pace 0) west)
 

@@ -6,3 +6,5 @@ pub mod Asked
 pub mod Calling
 pub mod Looping
 pub mod CallKinds
+pub mod Writing
+pub mod Replying

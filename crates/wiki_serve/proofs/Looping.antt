@@ -12,6 +12,7 @@ use Rattle.http_reply.specs.Reply.{Reply, answer_bytes}
 use Rattle.http_reply.specs.AsModel.{refusal_of}
 use Rattle.http_reply.specs.declared.refusal.Refusal.{Refusal}
 use Rattle.region_state.specs.AsModel.{answer_of}
+use Rattle.region_state.specs.declared.plan.FarmPlan.{FarmPlan}
 use Rattle.farm_base.specs.Series.{Gives}
 use Rattle.farm_core.specs.FarmParts.{FarmParts}
 use Rattle.wiki_serve.specs.declared.callers.Visit.{Visit}
@@ -210,3 +211,17 @@ module _ {K S : Type 0} (content : K → Option (List Entry)) (faults : K → �
           (refused_had (desk_of mid.peer old) old new sent_old sent_new before now refusal nothing)
           (subst (λ (r : Reaction). Responds mid conn r (count + 1) result) is responds)
       by (arrival.Ready visit) may (reads, from) reacts responds = visited visit what may reads (reacts from) responds
+
+  -- the same at the desk of the whole connection, which has this peer, on the farm as it was first
+  pub turn_whole : (peer : Bytes) (first : FarmParts K S) (a b : Seen) (mid conn : Conn) (kept : Bytes) (old new : FarmParts K S) (sent_old sent_new : ℕ) (before now : Heard) (Stood : Standing) (count : ℕ) (came : Arrival) (what : Reaction) (result : Option ConnEnd)
+      → mid.peer ≡ peer → old.plan ≡ first.plan → b.heard ≡ before → b.unsent ≡ unsent_of old sent_old
+      → MayServeOn (desk_of peer first) a b Stood (StandsSent content faults cache_of old sent_old) count
+      → Arrives b.conn mid b.kept kept came → Reacts content faults cache_of mid.peer old new sent_old sent_new before now came what → Responds mid conn what (count + 1) result
+      → Next (desk_of peer first) a conn kept now (unsent_of new sent_new) Stood (StandsSent content faults cache_of new sent_new) count result
+  turn_whole peer first a b mid conn kept old new sent_old sent_new before now Stood count came what result peer_is plan_is heard_is unsent_is on arrives reacts responds =
+      let same : desk_of mid.peer old ≡ desk_of peer first =
+          ap (λ (p : Bytes). let desk : Desk = record { peer = p; pace = old.plan.pace } in desk) peer_is
+          ∙ ap (λ (plan : FarmPlan). let desk : Desk = record { peer = peer; pace = plan.pace } in desk) plan_is in
+      subst (λ (d : Desk). Next d a conn kept now (unsent_of new sent_new) Stood (StandsSent content faults cache_of new sent_new) count result) same
+        (turn_done a b mid conn kept old new sent_old sent_new before now Stood count came what result heard_is unsent_is
+          (subst (λ (d : Desk). MayServeOn d a b Stood (StandsSent content faults cache_of old sent_old) count) (sym same) on) arrives reacts responds)

@@ -116,7 +116,7 @@ messages_more v [] (x ∷ sent) n t all one = absurd all
 messages_more v (m ∷ numbers) [] n t all one = absurd all
 messages_more v (m ∷ numbers) (x ∷ sent) n t (first, all) one = (first, messages_more v numbers sent n t all one)
 
-numbers_more : (n a b : ℕ) → numbers_from n (a + b) ≡ numbers_from n a ++ numbers_from (n + a) b
+pub numbers_more : (n a b : ℕ) → numbers_from n (a + b) ≡ numbers_from n a ++ numbers_from (n + a) b
 numbers_more n zero b =
     let none : 0 + b ≡ b = omega arith in
     let same : n ≡ n + 0 = omega arith in

@@ -69,11 +69,11 @@ told_read kept kept2 (Some x) None got is rest e = absurd is
 told_read kept kept2 (Some x) (Some y) got is rest e = let same : x ≡ rest = cc in (y, subst (λ (r : Bytes). Reads false (kept ++ r) got (kept2 ++ y)) same is)
 
 -- a head is never read as an end of input
-no_end : (h : RequestHead) (answer : Result Call Fault) → NoMore ≡ incoming h answer → ⊥
+no_end : (h : Head) (answer : Result Call Fault) → NoMore ≡ incoming h answer → ⊥
 no_end h (Ok call) e = cc
 no_end h (Err fault) e = cc
 
-after_no_end : (h : RequestHead) (fault : Option Fault) (after rest : Bytes) → ReadsAfter false h fault after NoMore rest → ⊥
+after_no_end : (h : Head) (fault : Option Fault) (after rest : Bytes) → ReadsAfter false h fault after NoMore rest → ⊥
 after_no_end h (Some fault) after rest e = cc
 after_no_end h None after rest (body, split, long, e) = no_end h (call_of false h body) e
 
@@ -82,9 +82,9 @@ closed_is_empty input rest (inl (got, empty, over)) = empty
 closed_is_empty input rest (inr (inl more)) = let got = more.0 in let no : ⊥ = cc in absurd no
 closed_is_empty input rest (inr (inr (inl more))) = let got = more.0 in let no : ⊥ = cc in absurd no
 closed_is_empty input rest (inr (inr (inr (inl more)))) = let got = more.0 in let no : ⊥ = cc in absurd no
-closed_is_empty input rest (inr (inr (inr (inr (h, after, head, after_head))))) = absurd (after_no_end h (head_fault h) after rest after_head)
+closed_is_empty input rest (inr (inr (inr (inr (h, after, head, after_head))))) = absurd (after_no_end (said_by h) (head_fault (said_by h)) after rest after_head)
 
-after_cut : (h : RequestHead) (fault : Option Fault) (after rest : Bytes) → ReadsAfter false h fault after Cut rest → ReadsAfter false h fault after Cut []
+after_cut : (h : Head) (fault : Option Fault) (after rest : Bytes) → ReadsAfter false h fault after Cut rest → ReadsAfter false h fault after Cut []
 after_cut h (Some fault) after rest e = e
 after_cut h None after rest short = short
 
@@ -94,7 +94,7 @@ cut_leaves_anything input rest (inl (got, empty, over)) = let no : ⊥ = cc in a
 cut_leaves_anything input rest (inr (inl cut)) = inr (inl cut)
 cut_leaves_anything input rest (inr (inr (inl large))) = inr (inr (inl large))
 cut_leaves_anything input rest (inr (inr (inr (inl none)))) = inr (inr (inr (inl none)))
-cut_leaves_anything input rest (inr (inr (inr (inr (h, after, head, after_head))))) = inr (inr (inr (inr (h, after, head, after_cut h (head_fault h) after rest after_head))))
+cut_leaves_anything input rest (inr (inr (inr (inr (h, after, head, after_head))))) = inr (inr (inr (inr (h, after, head, after_cut (said_by h) (head_fault (said_by h)) after rest after_head))))
 
 has_read_more : (before now now2 : Option Bytes) (kept kept2 : Bytes) (xs : List (Exchange Service)) (x : Exchange Service) → HasReadAll before kept now xs → IsRead false kept now kept2 now2 (incoming_of x)
     → HasReadAll before kept2 now2 (xs ++ x ∷ [])

@@ -30,12 +30,16 @@ region_of request = route (is_edit request.call) request.host request.cookies
 abbrev pub live_cookie : (now : ℕ) → Request → Option Cookie
 live_cookie now request = option_and_then (if_live now) request.cookies.position
 
+-- the client of an address and an agent
+unfoldable pub stranger_of : (peer agent : Bytes) → Client
+stranger_of peer agent = client_after peer agent
+
 abbrev pub client_of_cookie : Option Cookie → (stranger : Client) → Client
 client_of_cookie cookie stranger = unwrap_or (option_map (λ c. c.client) cookie) stranger
 
 -- the client of a live cookie, or else that of the address and the agent
 abbrev pub client_for : Desk → (now : ℕ) → Request → Client
-client_for desk now request = client_of_cookie (live_cookie now request) (client_after desk.peer request.agent)
+client_for desk now request = client_of_cookie (live_cookie now request) (stranger_of desk.peer request.agent)
 
 -- the moment of the request's region after its reading
 abbrev pub moment_for : World → Readings → Request → ℕ

@@ -14,7 +14,6 @@ use Rattle.wiki_model.specs.Asking.{Request, Call, PageCall, EditCall}
 use Rattle.wiki_model.specs.Answers.{Answer, EditSaved}
 use Rattle.farm_base.specs.Series.{Series, Gives}
 use Rattle.purge_relay.specs.Carried.{Carried}
-use Rattle.wiki_titles.specs.ClientId.{client_after}
 use Rattle.http_desk.specs.Incoming.{Ready, Refused, Closed, Cut}
 use Rattle.http_desk.specs.AsModel.{request_shown}
 use Rattle.http_reply.specs.Reply.{answer_bytes, refusal_reply}
@@ -35,7 +34,7 @@ use Rattle.wiki_serve.specs.Replies.{location_of, answer_reply, unserved_reply}
 use Rattle.wiki_serve.specs.Exchanges as exchange
 use Rattle.wiki_serve.specs.Exchanges.{Outcome, Unserved, Service, Heard, GivesAll, with_messages}
 use Rattle.wiki_serve.specs.Housework.{counted_if}
-use Rattle.wiki_serve.specs.Callers.{Desk}
+use Rattle.wiki_serve.specs.Callers.{Desk, stranger_of}
 use Rattle.wiki_serve.specs.Services.{DoesOne}
 use Rattle.wiki_serve.specs.Connections.{Conn}
 use Rattle.wiki_serve.specs.Served.{IsLater, Waits, ReadsFrom, WritesTo}
@@ -53,7 +52,7 @@ EndsReading before now kept_before kept_now _ = ⊥
 
 -- the visit's client is that of the peer and the agent, if no cookie names one
 abbrev pub IsFrom : (peer : Bytes) → Visit → Type 0
-IsFrom peer visit = visit.stranger ≡ client_after peer (string_bytes visit.request.agent)
+IsFrom peer visit = visit.stranger ≡ stranger_of peer (string_bytes visit.request.agent)
 
 abbrev pub Arrives : (before now : Conn) → (kept_before kept_now : Bytes) → Arrival → Type 0
 Arrives before now kept_before kept_now (arrival.Ended end) = EndsReading before now kept_before kept_now end
@@ -180,6 +179,11 @@ Reacts content faults cache_of peer old new sent_old sent_new before now (arriva
     → ReactsTo content faults cache_of (desk_of peer old) old new sent_old sent_new before now visit what
 
 -- Writing
+
+-- how the connection ends without a response
+abbrev pub ended_of : Reaction → Option ConnEnd
+ended_of (reaction.Ended end) = Some end
+ended_of _ = None
 
 -- whether the connection ends after the response
 abbrev pub reaction_closes : Reaction → Bool

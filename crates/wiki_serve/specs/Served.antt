@@ -1,6 +1,6 @@
 -- A connection that was served so far: what was read, written, heard and done between two points, with the exchanges in
 -- their order.
-use Rattle.std.specs.Prelude.{ℕ, ◌≡◌, ◌≤◌, Bool, List, [], ◌∷◌, ◌++◌, length, reverse, Option, Some, None, option_map}
+use Rattle.std.specs.Prelude.{ℕ, ◌≡◌, ◌≤◌, false, List, [], ◌∷◌, ◌++◌, length, reverse, Option, Some, None, option_map}
 use Rattle.farm_base.specs.Exposed.{Adds, Stays}
 use Rattle.farm_base.specs.Series.{Gives}
 use Rattle.wiki_model.specs.Bytes.{Bytes}

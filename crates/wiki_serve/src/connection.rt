@@ -3,14 +3,14 @@ ghost use Rattle.std.specs.Prelude.{◌≡◌, ◌≤◌, None};
 ghost use Rattle.wiki_serve.specs.Exchanges.{heard_seen};
 ghost use Rattle.wiki_serve.specs.Connections.{conn_seen, IsServed};
 ghost use Rattle.wiki_serve.specs.Turns.{StandsSent, unsent_of};
-ghost use Rattle.wiki_serve.specs.Reactions.{desk_of};
+ghost use Rattle.wiki_serve.specs.Reactions.{Responds, desk_of};
 ghost use Rattle.wiki_serve.specs.AsModel.{end_of};
 ghost use Rattle.farm_core.specs.FarmParts.{IsWhole, SameShape};
 ghost use Rattle.farm_steps.specs.RequestMap.{open_at};
 
 use crate::read_arrival::read_arrival;
 use crate::respond::respond;
-use crate::serve_arrival::serve_arrival;
+use crate::serve_arrival::{Reaction, serve_arrival};
 use crate::served_farm::ServedFarm;
 use farm_base::{Clock, Conn, Lots};
 use farm_core::Page;
@@ -80,9 +80,27 @@ pub fn serve_conn<X: Conn, K: Keeper, S: RegionStore<Page>, C: Clock, L: Lots, W
     'requests: loop {
         let arrival = read_arrival(alloc, conn, &mut kept);
         let reaction = serve_arrival(alloc, served, clock, lots, wire, arrival);
-        if let Some(end) = respond(alloc, conn, &reaction, answered + 1) {
+        if let Some(end) = answer(alloc, conn, reaction, answered + 1) {
             return end;
         }
         answered += 1;
     }
+}
+
+/// Writes the response, and lets go of it.
+fn answer<X: Conn>(
+    alloc: Global,
+    conn: &mut X,
+    reaction: Reaction,
+    number: u64,
+) -> Option<ConnEnd>
+    ensures responds { Responds
+        (conn_seen (X.peer conn.old) (X.left conn.old) (X.written conn.old) (X.Source.faults conn.old)
+          (X.Sink.faults conn.old))
+        (conn_seen (X.peer conn.new) (X.left conn.new) (X.written conn.new) (X.Source.faults conn.new)
+          (X.Sink.faults conn.new))
+        reaction number result }
+    ensures peer { X.peer conn.new ≡ X.peer conn.old }
+{
+    respond(alloc, conn, &reaction, number)
 }

@@ -1,5 +1,5 @@
 // What is done before each request that is served.
-ghost use Rattle.std.specs.Prelude.{◌≡◌, ◌≤◌, ◌<◌, ◌+◌, ℕ, length, max, Some, None, IfSome, IfNone, option_map};
+ghost use Rattle.std.specs.Prelude.{◌≡◌, ◌≤◌, ◌<◌, ◌+◌, ◌^◌, ℕ, length, max, Some, None, IfSome, IfNone, option_map};
 ghost use Rattle.wiki_model.specs.World.{cut};
 ghost use Rattle.wiki_model.specs.Steps.{MakeBeat, Apply, Carry};
 ghost use Rattle.wiki_model.specs.Serving.{is_past};
@@ -62,6 +62,7 @@ fn send_unsent<K: Keeper, S: RegionStore<Page>, W: Wire>(
 fn message_after<K: Keeper, S: RegionStore<Page>>(farm: &Farm<K, S>, sent: u64) -> Option<&Message>
     ensures some { IfSome result (λ message. (sent < length farm.now.ledger.rows)
         × IsRow farm.now.ledger.rows (sent + 1) (taken_of message.now)) }
+    ensures small { IfSome result (λ message. sent + 1 < 2 ^ 64) }
     ensures none { IfNone result (length farm.now.ledger.rows ≤ sent) }
 {
     if sent < farm.issued() {

@@ -1,6 +1,5 @@
 // What comes next on a connection.
 ghost use Rattle.std.specs.Prelude.{◌≡◌};
-ghost use Rattle.wiki_titles.specs.ClientId.{client_after};
 ghost use Rattle.wiki_serve.specs.Connections.{conn_seen};
 ghost use Rattle.wiki_serve.specs.Reactions.{Arrives, IsFrom};
 
@@ -46,6 +45,7 @@ pub(crate) fn read_arrival<X: Conn>(alloc: Global, conn: &mut X, kept: &mut Vec<
     }
 }
 
+#[tactic(auto, unfolding(crate::specs::Callers::stranger_of))]
 fn visit_of(peer: &str, request: Request) -> Visit
     ensures request { result.request ≡ request }
     ensures from { IsFrom peer.now result }

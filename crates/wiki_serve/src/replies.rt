@@ -177,23 +177,24 @@ fn saved_lines(
     };
     let position = position_value(alloc, &cookie)?;
     let mut lines = Vec::new(alloc);
-    let location = String::from_str(alloc, location)?;
-    lines.push((String::from_str(alloc, "Location")?, location))?;
-    push_cookie(alloc, &mut lines, position.as_str())?;
-    push_cookie(alloc, &mut lines, use_master_value())?;
-    push_cookie(alloc, &mut lines, no_edge_value())?;
+    push_line(alloc, &mut lines, "Location", location)?;
+    push_line(alloc, &mut lines, "Set-Cookie", position.as_str())?;
+    push_line(alloc, &mut lines, "Set-Cookie", use_master_value())?;
+    push_line(alloc, &mut lines, "Set-Cookie", no_edge_value())?;
     Ok(lines)
 }
 
-fn push_cookie(
+fn push_line(
     alloc: Global,
     lines: &mut Vec<(String, String)>,
+    name: &str,
     value: &str,
 ) -> Result<(), Memory>
-    ensures { OnOk result (lines_of lines.new.items ≡ lines_of lines.old.items ++ (codes "Set-Cookie", value.now) ∷ []) }
+    ensures { OnOk result (lines_of lines.new.items ≡ lines_of lines.old.items ++ (name.now, value.now) ∷ []) }
 {
+    let name = String::from_str(alloc, name)?;
     let value = String::from_str(alloc, value)?;
-    lines.push((String::from_str(alloc, "Set-Cookie")?, value))?;
+    lines.push((name, value))?;
     Ok(())
 }
 

@@ -8,7 +8,7 @@ ghost use Rattle.farm_base.specs.Causes.{HasCause};
 ghost use Rattle.http_reply.specs.Reply as reply;
 ghost use Rattle.http_reply.specs.AsModel.{refusal_of};
 ghost use Rattle.wiki_serve.specs.Connections.{conn_seen};
-ghost use Rattle.wiki_serve.specs.Reactions.{Responds, reaction_closes, reaction_bytes, page_part, end_after};
+ghost use Rattle.wiki_serve.specs.Reactions.{Responds, WritesResponse, ended_of, reaction_closes, reaction_bytes, page_part, end_after};
 
 use crate::connection::{ConnEnd, REQUESTS_MAX};
 use crate::replies::{answer_start, sent_page, unserved_bytes};
@@ -33,11 +33,38 @@ pub(crate) fn respond<X: Conn>(
         reaction.now number result }
     ensures peer { X.peer conn.new ≡ X.peer conn.old }
 {
-    if let Reaction::Ended(end) = reaction {
-        return Some(*end);
+    match ended(reaction) {
+        Some(end) => Some(end),
+        None => write_response(alloc, conn, reaction, closes(reaction), number),
     }
-    let closes = closes(reaction);
-    let Ok(start) = start_of(alloc, reaction, closes || number == REQUESTS_MAX) else {
+}
+
+/// How the connection ends without a response; None if there is one.
+fn ended(reaction: &Reaction) -> Option<ConnEnd>
+    ensures { result ≡ ended_of reaction.now }
+{
+    match reaction {
+        Reaction::Ended(end) => Some(*end),
+        Reaction::Refused(_) | Reaction::Answered(_) | Reaction::Unserved { .. } => None,
+    }
+}
+
+fn write_response<X: Conn>(
+    alloc: Global,
+    conn: &mut X,
+    reaction: &Reaction,
+    closes: bool,
+    number: u64,
+) -> Option<ConnEnd>
+    ensures writes { WritesResponse
+        (conn_seen (X.peer conn.old) (X.left conn.old) (X.written conn.old) (X.Source.faults conn.old)
+          (X.Sink.faults conn.old))
+        (conn_seen (X.peer conn.new) (X.left conn.new) (X.written conn.new) (X.Source.faults conn.new)
+          (X.Sink.faults conn.new))
+        (reaction_bytes reaction.now (closes || (number == requests_max))) closes number result }
+    ensures peer { X.peer conn.new ≡ X.peer conn.old }
+{
+    let Ok(start) = start_of(alloc, reaction, is_last(closes, number)) else {
         return Some(ConnEnd::Memory);
     };
     conn.shows_halves();
@@ -47,6 +74,13 @@ pub(crate) fn respond<X: Conn>(
         Err(OutFault::Failed) => Some(ConnEnd::WriteFault),
         Ok(()) => end_after(closes, number),
     }
+}
+
+/// Whether the response is the last one of its connection.
+fn is_last(closes: bool, number: u64) -> bool
+    ensures { result ≡ (closes || (number == requests_max)) }
+{
+    closes || number == REQUESTS_MAX
 }
 
 /// How the connection ends after a response that was written whole.

@@ -152,15 +152,16 @@ fn serve_call<K: Keeper, S: RegionStore<Page>, L: Lots, W: Wire>(
     ensures free { open_at served.new.farm.requests 0 ≡ None }
     ensures counts { K.faults served.old.farm.keeper ≤ K.faults served.new.farm.keeper }
 {
-    let now = moment_for(&served.farm, at, &visit.request);
-    let cookie = live_cookie(&visit.request, now);
-    let client = client_of(&cookie, visit.stranger);
+    let Visit { request, stranger } = visit;
+    let now = moment_for(&served.farm, at, &request);
+    let cookie = live_cookie(&request, now);
+    let client = client_of(&cookie, stranger);
     let Request {
         host,
         cookies,
         call,
         ..
-    } = visit.request;
+    } = request;
     match call {
         Call::Page(title) => {
             let ask = ViewAsk {

@@ -1,0 +1,14 @@
+mod Lists
+mod Marking
+mod Claiming
+mod Valuing
+mod Steps
+mod Splitting
+mod Joining
+mod Opening
+mod Storing
+mod ClosesAs
+mod Taking
+mod Gathering
+mod Truths
+mod Seating

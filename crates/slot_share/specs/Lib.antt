@@ -1,0 +1,9 @@
+pub mod Marks
+pub mod Ranks
+pub mod Claims
+pub mod Values
+pub mod Rule
+pub mod Steps
+pub mod Shares
+pub mod Calls
+pub mod Closing

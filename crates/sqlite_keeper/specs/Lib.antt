@@ -1,0 +1,2 @@
+pub mod TableFault
+pub mod SqliteKeeper

@@ -1,0 +1,2 @@
+pub mod KeeperNext
+pub mod Beside

@@ -1,0 +1,281 @@
+// Rows that no history has, and entries that no row takes: each is a fault of the call that meets it.
+use crate::setting::{Questions, answers, edit_of, new_keeper, started};
+use crate::twins::Twins;
+use commit_feed::Entry;
+use farm_base::{MOMENT_MAX, Moment};
+use revision_keeper::{KeepFault, Keeper};
+use sqlite::{MemStore, params};
+use sqlite_keeper::SqliteKeeper;
+use std::alloc::Global;
+use std::test::Fail;
+use wiki_titles::{ClientId, TEXT_MAX, Text, Title, Token};
+
+// Which call meets the changed row. Titles and clients are those of the only page.
+#[derive(Clone, Copy)]
+enum Call {
+    Start,
+    Entry(u64),
+    LatestIn(u64),
+    Writes,
+    Append,
+}
+
+// What is done to a beat and two commits of client 1 on `A`, and the call that then is a fault.
+const CHANGES: [(&str, Call); 27] = [
+    (
+        "UPDATE entry SET stamp = 4000000000000001 WHERE n = 1",
+        Call::Entry(1),
+    ),
+    ("UPDATE entry SET stamp = -1 WHERE n = 1", Call::Entry(1)),
+    ("UPDATE entry SET stamp = -1 WHERE n = 3", Call::Entry(3)),
+    (
+        "UPDATE entry SET stamp = 4000000000000001 WHERE n = 3",
+        Call::Writes,
+    ),
+    ("DELETE FROM entry WHERE n = 1", Call::Entry(1)),
+    ("UPDATE change SET purge = -1 WHERE n = 2", Call::Entry(2)),
+    (
+        "UPDATE change SET revision = -1 WHERE n = 2",
+        Call::Entry(2),
+    ),
+    (
+        "UPDATE change SET revision = -1 WHERE n = 2",
+        Call::LatestIn(2),
+    ),
+    (
+        "UPDATE change SET revision = 4 WHERE n = 3",
+        Call::LatestIn(2),
+    ),
+    ("UPDATE change SET client = 'X' WHERE n = 2", Call::Entry(2)),
+    (
+        "UPDATE change SET client = '0000000000000000000000000000000A' WHERE n = 2",
+        Call::Entry(2),
+    ),
+    ("UPDATE change SET ix = -1 WHERE n = 2", Call::Entry(2)),
+    ("UPDATE change SET ix = -1 WHERE n = 3", Call::Writes),
+    (
+        "UPDATE change SET token = 'a b' WHERE n = 2",
+        Call::Entry(2),
+    ),
+    ("UPDATE change SET token = '' WHERE n = 2", Call::Entry(2)),
+    ("UPDATE change SET base = -1 WHERE n = 2", Call::Entry(2)),
+    (
+        "UPDATE change SET body = 'a\rb' WHERE n = 2",
+        Call::Entry(2),
+    ),
+    ("UPDATE title SET body = '' WHERE id = 2", Call::Entry(2)),
+    ("UPDATE title SET body = 'a#b' WHERE id = 2", Call::Entry(2)),
+    ("UPDATE title SET body = 'A_b' WHERE id = 2", Call::Entry(2)),
+    (
+        "INSERT INTO entry (n, stamp) VALUES (9223372036854775807, 5)",
+        Call::Append,
+    ),
+    ("UPDATE farm SET version = 3", Call::Start),
+    ("UPDATE farm SET version = 0", Call::Start),
+    ("UPDATE farm SET version = -1", Call::Start),
+    ("DELETE FROM farm", Call::Start),
+    ("DROP TABLE farm", Call::Start),
+    (
+        "DELETE FROM change; DELETE FROM title; DELETE FROM entry; INSERT INTO entry (n, stamp) VALUES (-5, 0)",
+        Call::Start,
+    ),
+];
+
+fn two_commits(alloc: Global) -> Result<SqliteKeeper<MemStore>, Fail> {
+    let first = edit_of(alloc, 1, "t1", "A", 1, "one")?;
+    let second = edit_of(alloc, 1, "t2", "A", 2, "two")?;
+    let twins = Twins::new(alloc, new_keeper(alloc)?).beat(0)?;
+    let Twins { keeper, .. } = twins.commit(1_000, first)?.commit(1_000, second)?;
+    Ok(keeper)
+}
+
+// A keeper over the changed rows, which is not made ready.
+fn changed(alloc: Global, sql: &str) -> Result<SqliteKeeper<MemStore>, Fail> {
+    let mut conn = two_commits(alloc)?.into_opened()?;
+    conn.execute_batch(sql)?;
+    Ok(SqliteKeeper::new(alloc, Ok(conn)))
+}
+
+fn is_fault<T: Drop>(found: Result<T, KeepFault>) -> bool {
+    matches!(found, Err(KeepFault::Fault))
+}
+
+// Makes the keeper ready, and then the call; whether that was a fault, and the only one.
+fn is_only_fault(
+    alloc: Global,
+    keeper: &mut SqliteKeeper<MemStore>,
+    call: Call,
+) -> Result<bool, Fail> {
+    if let Call::Start = call {
+        return Ok(is_fault(keeper.start()) && keeper.faults() == 1);
+    }
+    keeper.start()?;
+    let failed = match call {
+        Call::Start => false,
+        Call::Entry(n) => is_fault(keeper.entry(n)),
+        Call::LatestIn(upto) => is_fault(keeper.latest(&Title::parse(alloc, "A")?, upto)),
+        Call::Writes => is_fault(keeper.writes_of(&ClientId::number(1))),
+        Call::Append => is_fault(keeper.append(Entry::Beat { stamp: Moment(9) })),
+    };
+    Ok(failed && keeper.faults() == 1)
+}
+
+#[test]
+fn a_row_that_no_history_has_is_a_fault(rt: HostRuntime) -> Result<(), Fail> {
+    for (sql, call) in CHANGES {
+        let mut keeper = changed(rt.alloc(), sql)?;
+        assert!(rt; is_only_fault(rt.alloc(), &mut keeper, call)?, "{sql}");
+    }
+    Ok(())
+}
+
+#[test]
+fn a_stored_text_past_its_limit_is_a_fault(rt: HostRuntime) -> Result<(), Fail> {
+    let alloc = rt.alloc();
+    for (bytes, fails) in [(TEXT_MAX, false), (TEXT_MAX + 1, true)] {
+        let mut conn = two_commits(alloc)?.into_opened()?;
+        let body = "x".repeat(alloc, bytes)?;
+        conn.execute(
+            "UPDATE change SET body = ?1 WHERE n = 2",
+            params![body.as_str()],
+        )?;
+        let mut keeper = started(alloc, conn)?;
+        assert_eq!(rt; is_fault(keeper.entry(2)), fails);
+    }
+    Ok(())
+}
+
+#[test]
+fn a_fault_of_one_row_leaves_the_others(rt: HostRuntime) -> Result<(), Fail> {
+    let alloc = rt.alloc();
+    let mut keeper = changed(alloc, "UPDATE change SET client = 'X' WHERE n = 2")?;
+    keeper.start()?;
+    assert!(rt; is_fault(keeper.entry(2)));
+    assert_eq!(rt; keeper.latest(&Title::parse(alloc, "A")?, 3), Ok(Some(3)));
+    assert!(rt; is_fault(keeper.entry(2)));
+    assert!(rt; keeper.entry(3).is_ok() && keeper.entry(1).is_ok());
+    assert_eq!(rt; keeper.faults(), 2);
+    Ok(())
+}
+
+// The next commit on `A` by client 1, but for what a test changes.
+#[derive(Clone, Copy)]
+struct Numbers {
+    stamp: u64,
+    purge: u64,
+    revision: u64,
+    index: u64,
+    base: u64,
+}
+
+const NEXT: Numbers = Numbers {
+    stamp: 3_000,
+    purge: 3,
+    revision: 3,
+    index: 3,
+    base: 2,
+};
+
+const OVER: u64 = 9_223_372_036_854_775_808; // 2^63
+
+fn commit_of(alloc: Global, title: &str, token: &str, n: Numbers) -> Result<Entry, Fail> {
+    Ok(Entry::Commit {
+        stamp: Moment(n.stamp),
+        purge: n.purge,
+        title: Title::parse(alloc, title)?,
+        revision: n.revision,
+        client: ClientId::number(1),
+        index: n.index,
+        token: Token::parse(alloc, token)?,
+        base: n.base,
+        text: Text::parse(alloc, "three")?,
+    })
+}
+
+// Entries that no row takes: a number or a stamp past its limit, a title's first commit again, a later one of a title
+// without a first, a revision again, and a token again.
+fn refused_entries(alloc: Global) -> Result<Vec<Entry>, Fail> {
+    let mut made = Vec::new(alloc);
+    made.push(commit_of(
+        alloc,
+        "A",
+        "t3",
+        Numbers {
+            stamp: MOMENT_MAX + 1,
+            ..NEXT
+        },
+    )?)?;
+    made.push(commit_of(
+        alloc,
+        "A",
+        "t3",
+        Numbers {
+            purge: OVER,
+            ..NEXT
+        },
+    )?)?;
+    made.push(commit_of(
+        alloc,
+        "A",
+        "t3",
+        Numbers {
+            revision: OVER,
+            ..NEXT
+        },
+    )?)?;
+    made.push(commit_of(
+        alloc,
+        "A",
+        "t3",
+        Numbers {
+            index: OVER,
+            ..NEXT
+        },
+    )?)?;
+    made.push(commit_of(alloc, "A", "t3", Numbers { base: OVER, ..NEXT })?)?;
+    made.push(commit_of(
+        alloc,
+        "A",
+        "t3",
+        Numbers {
+            revision: 1,
+            ..NEXT
+        },
+    )?)?;
+    made.push(commit_of(alloc, "B", "t3", NEXT)?)?;
+    made.push(commit_of(
+        alloc,
+        "A",
+        "t3",
+        Numbers {
+            revision: 2,
+            ..NEXT
+        },
+    )?)?;
+    made.push(commit_of(alloc, "A", "t2", NEXT)?)?;
+    Ok(made)
+}
+
+const ASKED: Questions<'static> = Questions {
+    upto: 4,
+    titles: &["A", "B"],
+    clients: &[1],
+    tokens: &["t1", "t2", "t3"],
+};
+
+#[test]
+fn a_refused_entry_leaves_the_history(rt: HostRuntime) -> Result<(), Fail> {
+    let alloc = rt.alloc();
+    let mut keeper = two_commits(alloc)?;
+    let before = answers(alloc, &mut keeper, &ASKED)?;
+    let mut refused = 0u64;
+    for entry in refused_entries(alloc)? {
+        assert!(rt; is_fault(keeper.append(entry)), "{refused}");
+        refused = refused.saturating_add(1);
+        assert_eq!(rt; keeper.faults(), refused);
+        let after = answers(alloc, &mut keeper, &ASKED)?;
+        assert_eq!(rt; after.as_str(), before.as_str());
+    }
+    assert_eq!(rt; keeper.append(commit_of(alloc, "A", "t3", NEXT)?), Ok(4));
+    Ok(())
+}
