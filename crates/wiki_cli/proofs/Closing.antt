@@ -116,6 +116,8 @@ module _ {K S : Type 0} (content : K → Option (List Entry)) (faults : K → �
     counts_by n status.ReadFault is on wrong start w stands = absurd wrong
     counts_by n status.StoreFault is on wrong start w stands = absurd wrong
     counts_by n (status.NotEmpty k) is on wrong start w stands = absurd wrong
+    counts_by n status.DoorFault is on wrong start w stands = absurd wrong
+    counts_by n (status.Layout k) is on wrong start w stands = absurd wrong
 
     summary_by : (result : Result ℕ KeepFault) → IsLength (content now.keeper) result → HasFault (faults now.keeper) (faults after) result → WritesSummary steps summary_now result old new g h said
         → (start w : World) → Stands content faults cache_of first start [] w → EndsSummary (IsSummaryFrom start steps lines kept) (Rose g h) old new said

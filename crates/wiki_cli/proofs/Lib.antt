@@ -6,3 +6,4 @@ pub mod Scripts
 pub mod Farms
 pub mod Refusals
 pub mod Complete
+pub mod Serving

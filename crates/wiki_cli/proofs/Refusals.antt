@@ -8,7 +8,7 @@ use Rattle.farm_core.specs.declared.farm.NewFault.TheVariants as new
 use Rattle.script_runner.proofs.Reported.{rose_after}
 use Rattle.wiki_cli.specs.Ends.{EndsReport, EndsSummary, HasRisen}
 use Rattle.wiki_cli.specs.RunFarm.{IsRunEnd}
-use Rattle.wiki_cli.specs.Commands.{IsDrillEnd, IsSourceEnd, IsCommandEnd, fault_status, RefusesOpening}
+use Rattle.wiki_cli.specs.Commands.{IsDrillEnd, IsSourceEnd, IsScriptEnd, fault_status, RefusesOpening}
 use Rattle.wiki_cli.specs.declared.status.Status.{Status}
 use Rattle.wiki_cli.specs.declared.status.Status.TheVariants as status
 
@@ -21,6 +21,8 @@ risen_before write a b c status.WriteFault up rose = rose
 risen_before write a b c status.StoreFault up rose = rose_after a b c up rose
 risen_before write a b c status.Memory up rose = tt
 risen_before write a b c (status.NotEmpty n) up rose = tt
+risen_before write a b c status.DoorFault up rose = tt
+risen_before write a b c (status.Layout n) up rose = tt
 
 pub opening_ends : (Whole Cut : Bytes → Type 0) (failed : Type 0) (old now : Option Bytes) (fault : NewFault) (said : Status) → said ≡ fault_status fault → RefusesOpening failed old now fault → EndsReport Whole Cut failed old now said
 opening_ends Whole Cut failed old now new.Fault said is says = subst (λ (s : Status). EndsReport Whole Cut failed old now s) (sym is) (inl says)
@@ -49,6 +51,8 @@ drill_end status.WriteFault e = tt
 drill_end status.StoreFault e = tt
 drill_end status.Memory e = tt
 drill_end (status.NotEmpty n) e = e
+drill_end status.DoorFault e = e
+drill_end (status.Layout n) e = e
 
 pub source_end : (said : Status) → IsDrillEnd said → IsSourceEnd said
 source_end status.Ok e = tt
@@ -59,8 +63,10 @@ source_end status.WriteFault e = tt
 source_end status.StoreFault e = tt
 source_end status.Memory e = tt
 source_end (status.NotEmpty n) e = e
+source_end status.DoorFault e = e
+source_end (status.Layout n) e = e
 
-pub command_end : (said : Status) → IsSourceEnd said → IsCommandEnd said
+pub command_end : (said : Status) → IsSourceEnd said → IsScriptEnd said
 command_end status.Ok e = tt
 command_end status.Usage e = e
 command_end (status.Script n) e = tt
@@ -69,3 +75,5 @@ command_end status.WriteFault e = tt
 command_end status.StoreFault e = tt
 command_end status.Memory e = tt
 command_end (status.NotEmpty n) e = tt
+command_end status.DoorFault e = e
+command_end (status.Layout n) e = e

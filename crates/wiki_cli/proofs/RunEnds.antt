@@ -25,6 +25,8 @@ last_end state.Whole b c g h text status.Usage w = absurd w
 last_end state.Whole b c g h text (status.Script n) w = absurd w
 last_end state.Whole b c g h text status.ReadFault w = absurd w
 last_end state.Whole b c g h text (status.NotEmpty n) w = absurd w
+last_end state.Whole b c g h text status.DoorFault w = absurd w
+last_end state.Whole b c g h text (status.Layout n) w = absurd w
 last_end state.Failed b c g h text status.Ok w = absurd w
 last_end state.Failed b c g h text status.WriteFault w = tt
 last_end state.Failed b c g h text status.Memory w = absurd w
@@ -33,6 +35,8 @@ last_end state.Failed b c g h text status.Usage w = absurd w
 last_end state.Failed b c g h text (status.Script n) w = absurd w
 last_end state.Failed b c g h text status.ReadFault w = absurd w
 last_end state.Failed b c g h text (status.NotEmpty n) w = absurd w
+last_end state.Failed b c g h text status.DoorFault w = absurd w
+last_end state.Failed b c g h text (status.Layout n) w = absurd w
 last_end state.Memory b c g h text status.Ok w = absurd w
 last_end state.Memory b c g h text status.WriteFault w = absurd w
 last_end state.Memory b c g h text status.Memory w = tt
@@ -41,6 +45,8 @@ last_end state.Memory b c g h text status.Usage w = absurd w
 last_end state.Memory b c g h text (status.Script n) w = absurd w
 last_end state.Memory b c g h text status.ReadFault w = absurd w
 last_end state.Memory b c g h text (status.NotEmpty n) w = absurd w
+last_end state.Memory b c g h text status.DoorFault w = absurd w
+last_end state.Memory b c g h text (status.Layout n) w = absurd w
 
 fault_end : (s : ReportState) (b c : Option Bytes) (g h : ℕ) (said : Status) → FailsReport s b c g h said → IsRunEnd said
 fault_end state.Whole b c g h status.Ok w = absurd w
@@ -51,6 +57,8 @@ fault_end state.Whole b c g h status.Usage w = absurd w
 fault_end state.Whole b c g h (status.Script n) w = absurd w
 fault_end state.Whole b c g h status.ReadFault w = absurd w
 fault_end state.Whole b c g h (status.NotEmpty n) w = absurd w
+fault_end state.Whole b c g h status.DoorFault w = absurd w
+fault_end state.Whole b c g h (status.Layout n) w = absurd w
 fault_end state.Failed b c g h status.Ok w = absurd w
 fault_end state.Failed b c g h status.WriteFault w = absurd w
 fault_end state.Failed b c g h status.Memory w = absurd w
@@ -59,6 +67,8 @@ fault_end state.Failed b c g h status.Usage w = absurd w
 fault_end state.Failed b c g h (status.Script n) w = absurd w
 fault_end state.Failed b c g h status.ReadFault w = absurd w
 fault_end state.Failed b c g h (status.NotEmpty n) w = absurd w
+fault_end state.Failed b c g h status.DoorFault w = absurd w
+fault_end state.Failed b c g h (status.Layout n) w = absurd w
 fault_end state.Memory b c g h status.Ok w = absurd w
 fault_end state.Memory b c g h status.WriteFault w = absurd w
 fault_end state.Memory b c g h status.Memory w = tt
@@ -67,6 +77,8 @@ fault_end state.Memory b c g h status.Usage w = absurd w
 fault_end state.Memory b c g h (status.Script n) w = absurd w
 fault_end state.Memory b c g h status.ReadFault w = absurd w
 fault_end state.Memory b c g h (status.NotEmpty n) w = absurd w
+fault_end state.Memory b c g h status.DoorFault w = absurd w
+fault_end state.Memory b c g h (status.Layout n) w = absurd w
 
 pub report_end : (told : Told) (entries : Result ℕ KeepFault) (b c : Option Bytes) (g h : ℕ) (said : Status) → ClosesReport told entries b c g h said → IsRunEnd said
 report_end told (Ok n) b c g h said w = last_end told.state b c g h _ said w
@@ -83,6 +95,8 @@ last_risen store state.Whole a b c f g h before text status.Usage r w = absurd w
 last_risen store state.Whole a b c f g h before text (status.Script n) r w = absurd w
 last_risen store state.Whole a b c f g h before text status.ReadFault r w = absurd w
 last_risen store state.Whole a b c f g h before text (status.NotEmpty n) r w = absurd w
+last_risen store state.Whole a b c f g h before text status.DoorFault r w = absurd w
+last_risen store state.Whole a b c f g h before text (status.Layout n) r w = absurd w
 last_risen store state.Failed a b c f g h before text status.Ok r w = absurd w
 last_risen store state.Failed a b c f g h before text status.WriteFault r w = subst (λ n. Rose f n) (sym w.1) r.1
 last_risen store state.Failed a b c f g h before text status.Memory r w = absurd w
@@ -91,6 +105,8 @@ last_risen store state.Failed a b c f g h before text status.Usage r w = absurd 
 last_risen store state.Failed a b c f g h before text (status.Script n) r w = absurd w
 last_risen store state.Failed a b c f g h before text status.ReadFault r w = absurd w
 last_risen store state.Failed a b c f g h before text (status.NotEmpty n) r w = absurd w
+last_risen store state.Failed a b c f g h before text status.DoorFault r w = absurd w
+last_risen store state.Failed a b c f g h before text (status.Layout n) r w = absurd w
 last_risen store state.Memory a b c f g h before text status.Ok r w = absurd w
 last_risen store state.Memory a b c f g h before text status.WriteFault r w = absurd w
 last_risen store state.Memory a b c f g h before text status.Memory r w = tt
@@ -99,6 +115,8 @@ last_risen store state.Memory a b c f g h before text status.Usage r w = absurd 
 last_risen store state.Memory a b c f g h before text (status.Script n) r w = absurd w
 last_risen store state.Memory a b c f g h before text status.ReadFault r w = absurd w
 last_risen store state.Memory a b c f g h before text (status.NotEmpty n) r w = absurd w
+last_risen store state.Memory a b c f g h before text status.DoorFault r w = absurd w
+last_risen store state.Memory a b c f g h before text (status.Layout n) r w = absurd w
 
 fault_risen : (write store : Type 0) (s : ReportState) (b c : Option Bytes) (g h : ℕ) (said : Status) → store → FailsReport s b c g h said → HasRisen write store said
 fault_risen write store state.Whole b c g h status.Ok rose w = absurd w
@@ -109,6 +127,8 @@ fault_risen write store state.Whole b c g h status.Usage rose w = absurd w
 fault_risen write store state.Whole b c g h (status.Script n) rose w = absurd w
 fault_risen write store state.Whole b c g h status.ReadFault rose w = absurd w
 fault_risen write store state.Whole b c g h (status.NotEmpty n) rose w = absurd w
+fault_risen write store state.Whole b c g h status.DoorFault rose w = absurd w
+fault_risen write store state.Whole b c g h (status.Layout n) rose w = absurd w
 fault_risen write store state.Failed b c g h status.Ok rose w = absurd w
 fault_risen write store state.Failed b c g h status.WriteFault rose w = absurd w
 fault_risen write store state.Failed b c g h status.Memory rose w = absurd w
@@ -117,6 +137,8 @@ fault_risen write store state.Failed b c g h status.Usage rose w = absurd w
 fault_risen write store state.Failed b c g h (status.Script n) rose w = absurd w
 fault_risen write store state.Failed b c g h status.ReadFault rose w = absurd w
 fault_risen write store state.Failed b c g h (status.NotEmpty n) rose w = absurd w
+fault_risen write store state.Failed b c g h status.DoorFault rose w = absurd w
+fault_risen write store state.Failed b c g h (status.Layout n) rose w = absurd w
 fault_risen write store state.Memory b c g h status.Ok rose w = absurd w
 fault_risen write store state.Memory b c g h status.WriteFault rose w = absurd w
 fault_risen write store state.Memory b c g h status.Memory rose w = tt
@@ -125,6 +147,8 @@ fault_risen write store state.Memory b c g h status.Usage rose w = absurd w
 fault_risen write store state.Memory b c g h (status.Script n) rose w = absurd w
 fault_risen write store state.Memory b c g h status.ReadFault rose w = absurd w
 fault_risen write store state.Memory b c g h (status.NotEmpty n) rose w = absurd w
+fault_risen write store state.Memory b c g h status.DoorFault rose w = absurd w
+fault_risen write store state.Memory b c g h (status.Layout n) rose w = absurd w
 
 pub report_risen : (told : Told) (entries : Result ℕ KeepFault) (a b c : Option Bytes) (f g h : ℕ) (before : Bytes) (said : Status) (first now after : ℕ) → first ≤ now → IsReported told.state a b f g before → HasFault now after entries → ClosesReport told entries b c g h said
     → HasRisen (Rose f h) (Rose first after) said
@@ -141,6 +165,8 @@ counts_end a c g h steps n summary status.Usage w = absurd w
 counts_end a c g h steps n summary (status.Script k) w = absurd w
 counts_end a c g h steps n summary status.ReadFault w = absurd w
 counts_end a c g h steps n summary (status.NotEmpty k) w = absurd w
+counts_end a c g h steps n summary status.DoorFault w = absurd w
+counts_end a c g h steps n summary (status.Layout k) w = absurd w
 
 pub summary_end : (steps : ℕ) (summary : Summary) (entries : Result ℕ KeepFault) (a c : Option Bytes) (g h : ℕ) (said : Status) → WritesSummary steps summary entries a c g h said → IsRunEnd said
 summary_end steps summary (Ok n) a c g h said w = counts_end a c g h steps n summary said w
@@ -156,6 +182,8 @@ counts_risen store a c g h steps n summary status.Usage w = absurd w
 counts_risen store a c g h steps n summary (status.Script k) w = absurd w
 counts_risen store a c g h steps n summary status.ReadFault w = absurd w
 counts_risen store a c g h steps n summary (status.NotEmpty k) w = absurd w
+counts_risen store a c g h steps n summary status.DoorFault w = absurd w
+counts_risen store a c g h steps n summary (status.Layout k) w = absurd w
 
 pub summary_risen : (steps : ℕ) (summary : Summary) (entries : Result ℕ KeepFault) (a c : Option Bytes) (g h : ℕ) (said : Status) (first now after : ℕ) → first ≤ now → HasFault now after entries → WritesSummary steps summary entries a c g h said
     → HasRisen (Rose g h) (Rose first after) said

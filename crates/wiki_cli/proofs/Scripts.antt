@@ -25,6 +25,8 @@ report_as Whole Cut Whole2 Cut2 failed old new status.StoreFault whole cut (inr 
 report_as Whole Cut Whole2 Cut2 failed old new status.Memory whole cut (inl stays) = inl stays
 report_as Whole Cut Whole2 Cut2 failed old new status.Memory whole cut (inr (text, is, has)) = inr (text, whole text is, has)
 report_as Whole Cut Whole2 Cut2 failed old new (status.NotEmpty n) whole cut wrong = absurd wrong
+report_as Whole Cut Whole2 Cut2 failed old new status.DoorFault whole cut wrong = absurd wrong
+report_as Whole Cut Whole2 Cut2 failed old new (status.Layout n) whole cut wrong = absurd wrong
 
 pub summary_as : (Whole Whole2 : Bytes → Type 0) (failed : Type 0) (old new : Option Bytes) (said : Status) → ((t : Bytes) → Whole t → Whole2 t)
     → EndsSummary Whole failed old new said → EndsSummary Whole2 failed old new said
@@ -36,6 +38,8 @@ summary_as Whole Whole2 failed old new status.WriteFault whole (text, is, has) =
 summary_as Whole Whole2 failed old new status.StoreFault whole e = e
 summary_as Whole Whole2 failed old new status.Memory whole e = e
 summary_as Whole Whole2 failed old new (status.NotEmpty n) whole wrong = absurd wrong
+summary_as Whole Whole2 failed old new status.DoorFault whole wrong = absurd wrong
+summary_as Whole Whole2 failed old new (status.Layout n) whole wrong = absurd wrong
 
 -- a claim of a script's run, from a keeper that had counted less
 pub counted_before : (input : Bytes) (before later : ℕ) (Claim : World → List Line → Type 0) → before ≤ later → OfScript input later Claim → OfScript input before Claim
@@ -100,3 +104,5 @@ refused_input (Some all) (Some rest) bytes status.WriteFault reads is = tt
 refused_input (Some all) (Some rest) bytes status.StoreFault reads is = tt
 refused_input (Some all) (Some rest) bytes status.Memory reads is = tt
 refused_input (Some all) (Some rest) bytes (status.NotEmpty n) reads is = tt
+refused_input (Some all) (Some rest) bytes status.DoorFault reads is = tt
+refused_input (Some all) (Some rest) bytes (status.Layout n) reads is = tt

@@ -36,6 +36,8 @@ module _ (failed : Type 0) (old : Option Bytes) (Whole Cut : Bytes → Type 0) w
   last_written state.Whole b c f g h text last status.ReadFault risen is wrong whole = absurd wrong
   last_written state.Whole b c f g h text last status.StoreFault risen is wrong whole = absurd wrong
   last_written state.Whole b c f g h text last (status.NotEmpty n) risen is wrong whole = absurd wrong
+  last_written state.Whole b c f g h text last status.DoorFault risen is wrong whole = absurd wrong
+  last_written state.Whole b c f g h text last (status.Layout n) risen is wrong whole = absurd wrong
   last_written state.Failed b c f g h text last status.WriteFault risen (part, rose) (same, still) whole = (text ++ last, whole, subst (λ (w : Option Bytes). AddsPrefix old w (text ++ last)) (sym same) (prefix_more old b text last part))
   last_written state.Failed b c f g h text last status.Ok risen is wrong whole = absurd wrong
   last_written state.Failed b c f g h text last status.Memory risen is wrong whole = absurd wrong
@@ -44,6 +46,8 @@ module _ (failed : Type 0) (old : Option Bytes) (Whole Cut : Bytes → Type 0) w
   last_written state.Failed b c f g h text last status.ReadFault risen is wrong whole = absurd wrong
   last_written state.Failed b c f g h text last status.StoreFault risen is wrong whole = absurd wrong
   last_written state.Failed b c f g h text last (status.NotEmpty n) risen is wrong whole = absurd wrong
+  last_written state.Failed b c f g h text last status.DoorFault risen is wrong whole = absurd wrong
+  last_written state.Failed b c f g h text last (status.Layout n) risen is wrong whole = absurd wrong
   last_written state.Memory b c f g h text last status.Memory risen (part, up) (same, still) whole = inr (text ++ last, whole, subst (λ (w : Option Bytes). AddsPrefix old w (text ++ last)) (sym same) (prefix_more old b text last part))
   last_written state.Memory b c f g h text last status.Ok risen is wrong whole = absurd wrong
   last_written state.Memory b c f g h text last status.WriteFault risen is wrong whole = absurd wrong
@@ -52,6 +56,8 @@ module _ (failed : Type 0) (old : Option Bytes) (Whole Cut : Bytes → Type 0) w
   last_written state.Memory b c f g h text last status.ReadFault risen is wrong whole = absurd wrong
   last_written state.Memory b c f g h text last status.StoreFault risen is wrong whole = absurd wrong
   last_written state.Memory b c f g h text last (status.NotEmpty n) risen is wrong whole = absurd wrong
+  last_written state.Memory b c f g h text last status.DoorFault risen is wrong whole = absurd wrong
+  last_written state.Memory b c f g h text last (status.Layout n) risen is wrong whole = absurd wrong
 
   -- the line of a keeper that failed
   pub fault_written : (state : ReportState) (b c : Option Bytes) (f g h : ℕ) (text last : Bytes) (said : Status) → (Rose f h → failed) → IsReported state old b f g text → FailsReport state b c g h said
@@ -65,6 +71,8 @@ module _ (failed : Type 0) (old : Option Bytes) (Whole Cut : Bytes → Type 0) w
   fault_written state.Whole b c f g h text last (status.Script n) risen is wrong cut whole = absurd wrong
   fault_written state.Whole b c f g h text last status.ReadFault risen is wrong cut whole = absurd wrong
   fault_written state.Whole b c f g h text last (status.NotEmpty n) risen is wrong cut whole = absurd wrong
+  fault_written state.Whole b c f g h text last status.DoorFault risen is wrong cut whole = absurd wrong
+  fault_written state.Whole b c f g h text last (status.Layout n) risen is wrong cut whole = absurd wrong
   fault_written state.Failed b c f g h text last status.StoreFault risen (part, rose) (same, still) cut whole =
       inr (text, cut, inr (risen (subst (λ n. Rose f n) (sym still) rose), subst (λ (w : Option Bytes). AddsPrefix old w (text ++ store_fault_line)) (sym same) (prefix_more old b text store_fault_line part)))
   fault_written state.Failed b c f g h text last status.Ok risen is wrong cut whole = absurd wrong
@@ -74,6 +82,8 @@ module _ (failed : Type 0) (old : Option Bytes) (Whole Cut : Bytes → Type 0) w
   fault_written state.Failed b c f g h text last (status.Script n) risen is wrong cut whole = absurd wrong
   fault_written state.Failed b c f g h text last status.ReadFault risen is wrong cut whole = absurd wrong
   fault_written state.Failed b c f g h text last (status.NotEmpty n) risen is wrong cut whole = absurd wrong
+  fault_written state.Failed b c f g h text last status.DoorFault risen is wrong cut whole = absurd wrong
+  fault_written state.Failed b c f g h text last (status.Layout n) risen is wrong cut whole = absurd wrong
   fault_written state.Memory b c f g h text last status.Memory risen (part, up) (same, still) cut whole = inr (text ++ last, whole, subst (λ (w : Option Bytes). AddsPrefix old w (text ++ last)) (sym same) (prefix_more old b text last part))
   fault_written state.Memory b c f g h text last status.Ok risen is wrong cut whole = absurd wrong
   fault_written state.Memory b c f g h text last status.WriteFault risen is wrong cut whole = absurd wrong
@@ -82,6 +92,8 @@ module _ (failed : Type 0) (old : Option Bytes) (Whole Cut : Bytes → Type 0) w
   fault_written state.Memory b c f g h text last (status.Script n) risen is wrong cut whole = absurd wrong
   fault_written state.Memory b c f g h text last status.ReadFault risen is wrong cut whole = absurd wrong
   fault_written state.Memory b c f g h text last (status.NotEmpty n) risen is wrong cut whole = absurd wrong
+  fault_written state.Memory b c f g h text last status.DoorFault risen is wrong cut whole = absurd wrong
+  fault_written state.Memory b c f g h text last (status.Layout n) risen is wrong cut whole = absurd wrong
 
   -- memory ran out when the keeper was asked
   pub memory_written : (state : ReportState) (b c : Option Bytes) (f g h : ℕ) (text last : Bytes) → IsReported state old b f g text → c ≡ b → Whole (text ++ last) → EndsReport Whole Cut failed old c status.Memory
@@ -99,6 +111,8 @@ text_last s b c g h text status.Usage is wrong = absurd wrong
 text_last s b c g h text (status.Script n) is wrong = absurd wrong
 text_last s b c g h text status.ReadFault is wrong = absurd wrong
 text_last s b c g h text (status.NotEmpty n) is wrong = absurd wrong
+text_last s b c g h text status.DoorFault is wrong = absurd wrong
+text_last s b c g h text (status.Layout n) is wrong = absurd wrong
 
 pub text_counts : (b c : Option Bytes) (g h steps n : ℕ) (summary_now : Summary) (text : Bytes) (said : Status) → ((answers : List Answer) → IsSummaryOf summary_now answers → text ≡ summary_of steps n answers) → WritesText b c g h text said → WritesCounts b c g h steps n summary_now said
 text_counts b c g h steps n summary_now text status.Ok is w = λ answers of. subst (Adds b c) (is answers of) w.0
@@ -109,3 +123,5 @@ text_counts b c g h steps n summary_now text status.Usage is wrong = absurd wron
 text_counts b c g h steps n summary_now text (status.Script k) is wrong = absurd wrong
 text_counts b c g h steps n summary_now text status.ReadFault is wrong = absurd wrong
 text_counts b c g h steps n summary_now text (status.NotEmpty k) is wrong = absurd wrong
+text_counts b c g h steps n summary_now text status.DoorFault is wrong = absurd wrong
+text_counts b c g h steps n summary_now text (status.Layout k) is wrong = absurd wrong

@@ -14,6 +14,8 @@ use Rattle.wiki_cli.specs.Ends.{together, IsWritten, Kept, OfScript, IsSummaryFr
 use Rattle.wiki_cli.specs.RunFarm.{IsRunEnd}
 use Rattle.wiki_cli.specs.declared.command.Command.{Command}
 use Rattle.wiki_cli.specs.declared.command.Command.TheVariants as command
+use Rattle.wiki_cli.specs.declared.command.ScriptCommand.{ScriptCommand}
+use Rattle.wiki_cli.specs.declared.command.ScriptCommand.TheVariants as script
 use Rattle.wiki_cli.specs.declared.status.Status.{Status}
 use Rattle.wiki_cli.specs.declared.status.Status.TheVariants as status
 
@@ -43,9 +45,20 @@ IsSourceEnd status.ReadFault = Unit {0}
 IsSourceEnd said = IsDrillEnd said
 
 -- over a keeper that may have entries
-abbrev pub IsCommandEnd : Status → Type 0
-IsCommandEnd (status.NotEmpty n) = Unit {0}
-IsCommandEnd said = IsSourceEnd said
+abbrev pub IsScriptEnd : Status → Type 0
+IsScriptEnd (status.NotEmpty n) = Unit {0}
+IsScriptEnd said = IsSourceEnd said
+
+-- of a wiki that is served
+abbrev pub IsServeEnd : Status → Type 0
+IsServeEnd status.Usage = ⊥
+IsServeEnd (status.Script n) = ⊥
+IsServeEnd (status.NotEmpty n) = ⊥
+IsServeEnd _ = Unit {0}
+
+abbrev pub IsCommandEnd : Command → Status → Type 0
+IsCommandEnd (command.Script script) said = IsScriptEnd said
+IsCommandEnd (command.Serve connections) said = IsServeEnd said
 
 -- What is written of a script's counts, by its bytes.
 abbrev pub CountsScript :
@@ -55,9 +68,9 @@ CountsScript input steps before kept failed old now said =
     (λ text. OfScript input before (λ start lines. IsSummaryFrom start steps lines kept text)) failed old now said
 
 -- the numbers of a command are within their limits
-abbrev pub IsAllowed : Command → Type 0
-IsAllowed command.Drill = Unit {0}
-IsAllowed (command.Stir seed steps) = (seed < seed_limit) × (steps ≤ steps_max)
+abbrev pub IsAllowed : ScriptCommand → Type 0
+IsAllowed script.Drill = Unit {0}
+IsAllowed (script.Stir seed steps) = (seed < seed_limit) × (steps ≤ steps_max)
 
 -- a history that is said to have entries has as many, and some
 abbrev pub CountsEntries : (history : List Entry) → Status → Type 0

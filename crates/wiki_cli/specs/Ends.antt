@@ -15,7 +15,7 @@ use Rattle.wiki_model.specs.Generator.{stirred, summary}
 use Rattle.farm_base.specs.Exposed.{Adds, AddsPrefix, Stays}
 use Rattle.slot_cache.specs.Slots.{same_slot}
 use Rattle.script_runner.specs.Openings.{script_start}
-use Rattle.wiki_cli.specs.Command.{usage_line, read_fault_line, store_fault_line, script_line, not_empty_line}
+use Rattle.wiki_cli.specs.Command.{usage_line, read_fault_line, store_fault_line, script_line, not_empty_line, door_fault_line, layout_line}
 use Rattle.wiki_cli.specs.declared.status.Status.{Status}
 use Rattle.wiki_cli.specs.declared.status.Status.TheVariants as status
 
@@ -27,7 +27,9 @@ exit_number status.ReadFault = 4
 exit_number status.WriteFault = 5
 exit_number status.StoreFault = 6
 exit_number status.Memory = 7
+exit_number status.DoorFault = 8
 exit_number (status.NotEmpty n) = 9
+exit_number (status.Layout n) = 10
 
 -- in the caches of the program two titles are together if they have one slot
 abbrev pub together : Region → Title → Title → Bool
@@ -43,6 +45,8 @@ Says failed old new status.Usage = IsWritten failed old new usage_line
 Says failed old new (status.Script n) = IsWritten failed old new (script_line n)
 Says failed old new status.ReadFault = IsWritten failed old new read_fault_line
 Says failed old new (status.NotEmpty n) = IsWritten failed old new (not_empty_line n)
+Says failed old new status.DoorFault = IsWritten failed old new door_fault_line
+Says failed old new (status.Layout n) = IsWritten failed old new (layout_line n)
 Says failed old new _ = Unit {0}
 
 -- Runs of scripts
@@ -113,6 +117,8 @@ EndsReport Whole Cut failed old new status.Memory = Stays old new ⊎ Writes Who
 EndsReport Whole Cut failed old new status.StoreFault =
     IsWritten failed old new store_fault_line ⊎ Writes Cut (λ text. IsWritten failed old new (text ++ store_fault_line))
 EndsReport Whole Cut failed old new (status.NotEmpty n) = ⊥
+EndsReport Whole Cut failed old new status.DoorFault = ⊥
+EndsReport Whole Cut failed old new (status.Layout n) = ⊥
 EndsReport Whole Cut failed old new _ = Unit {0}
 
 -- What `drill` makes of a script's bytes over a keeper whose history is empty.

@@ -2,3 +2,4 @@ pub mod Command
 pub mod Ends
 pub mod RunFarm
 pub mod Commands
+pub mod Serving

@@ -25,11 +25,12 @@ mod refuse;
 mod run_farm;
 mod run_script;
 mod script_farm;
+mod serve_wiki;
 mod status;
 mod words;
 
 pub use adapters::{Reading, Writing};
-pub use command::Command;
+pub use command::{Command, ScriptCommand, store_of};
 pub use outside::{Outside, run};
 pub use status::Status;
 pub use words::refuse_words;

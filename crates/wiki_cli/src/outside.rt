@@ -3,12 +3,18 @@ ghost use Rattle.std.specs.Prelude.{◌≡◌, ◌⊎◌, ◌↔◌, ℕ, [], Li
 ghost use Rattle.std.specs.Io.KnownBytes.{IsAtEnd};
 ghost use Rattle.wiki_model.specs.Steps.{Rose};
 ghost use Rattle.wiki_model.specs.Script.{Line, IsScript};
-ghost use Rattle.wiki_cli.specs.Command.{AreWordsOf, AreNoCommand};
+ghost use Rattle.wiki_serve.specs.Connections.{conn_seen};
+ghost use Rattle.wiki_serve.specs.Exchanges.{heard_seen};
+ghost use Rattle.wiki_host.specs.Visits.{door_seen};
+ghost use Rattle.wiki_host.specs.Opening.{keeper_seen};
+ghost use Rattle.wiki_host.specs.Hosting.{host_seen};
+ghost use Rattle.wiki_cli.specs.Command.{AreWordsOf, AreServeWords, AreScriptWords, AreNoCommand};
+ghost use Rattle.wiki_cli.specs.Serving.{Serves, IsLayout};
 ghost use Rattle.wiki_cli.specs.Ends.{Says, Drills, Stirs, IsRefusedBy, IsNotEmpty, HasRisen, IsExposed};
 ghost use Rattle.wiki_cli.specs.RunFarm.{kept_by};
 ghost use Rattle.wiki_cli.specs.Commands.{CountsEntries, OfKeepers};
-ghost use Rattle.wiki_cli.specs.declared.command.Command.TheVariants.{Drill, Stir};
-ghost use Rattle.wiki_cli.specs.declared.status.Status.TheVariants.{Ok as Done, Usage, ReadFault, Memory as OutOfMemory};
+ghost use Rattle.wiki_cli.specs.declared.command.ScriptCommand.TheVariants.{Drill, Stir};
+ghost use Rattle.wiki_cli.specs.declared.status.Status.TheVariants.{Ok as Done, Usage, ReadFault, DoorFault, Memory as OutOfMemory};
 
 use crate::Status;
 use crate::command::{USAGE, read_command};
@@ -38,7 +44,8 @@ pub struct Outside<I: Drop, O: Drop, D: Drop, K: Drop, C: Drop, L: Drop, W: Drop
 /// With the word `drill` the whole script is read first; then all its steps are made from an empty history, and the
 /// report is written as the answers come. If a write fails nothing more is written, and the steps are made all the
 /// same. With `stir SEED STEPS` the script is made instead of read, and what is written is one line with the counts
-/// of its answers.
+/// of its answers. With `serve` a layout is read, and the door's connections are served on a wiki of it, over the
+/// keeper's history; what is written is one line with their number.
 ///
 /// Nothing is said of when memory runs out.
 pub fn run<I, O, D, K, C, L, W>(
@@ -83,8 +90,28 @@ where
         (Rose (O.faults outside.old.sink) (O.faults outside.new.sink))
         (O.written outside.old.sink) (O.written outside.new.sink) result) }
 
-    // Nothing is run on a history that has entries.
-    ensures not_empty { (AreNoCommand words.now → ⊥) → OfKeepers outside.old.keeper outside.new.keeper (λ before after.
+    // The bytes read are a layout, the door's connections were served one after another on a wiki of it, and their
+    // number is written; or why there were none.
+    ensures serve { (wanted : ℕ) → AreServeWords wanted words.now → IfSome (I.left outside.old.source) (λ layout.
+        OfKeepers outside.old.keeper outside.new.keeper (λ before after. Serves
+        (λ conn. conn_seen (D.C.peer conn) (D.C.left conn) (D.C.written conn) (D.C.Source.faults conn)
+        (D.C.Sink.faults conn))
+        wanted layout
+        (host_seen
+        (door_seen (D.offered outside.old.door) (D.faults outside.old.door) (D.nones outside.old.door))
+        (heard_seen (C.exposed outside.old.clock) (L.exposed outside.old.lots) (W.carried outside.old.wire)
+        (W.refused outside.old.wire) (W.empty outside.old.wire))
+        (keeper_seen (K.content before) (K.faults before)))
+        (host_seen
+        (door_seen (D.offered outside.new.door) (D.faults outside.new.door) (D.nones outside.new.door))
+        (heard_seen (C.exposed outside.new.clock) (L.exposed outside.new.lots) (W.carried outside.new.wire)
+        (W.refused outside.new.wire) (W.empty outside.new.wire))
+        (keeper_seen (K.content after) (K.faults after)))
+        (Rose (O.faults outside.old.sink) (O.faults outside.new.sink))
+        (O.written outside.old.sink) (O.written outside.new.sink) result)) }
+
+    // No script is run on a history that has entries.
+    ensures not_empty { AreScriptWords words.now → OfKeepers outside.old.keeper outside.new.keeper (λ before after.
         IfSome (K.content before) (λ history. IsNotEmpty history result)) }
     ensures entries { OfKeepers outside.old.keeper outside.new.keeper (λ before after.
         IfSome (K.content before) (λ history. CountsEntries history result)) }
@@ -94,6 +121,8 @@ where
     ensures cause { OfKeepers outside.old.keeper outside.new.keeper (λ before after.
         HasRisen (Rose (O.faults outside.old.sink) (O.faults outside.new.sink))
         (Rose (K.faults before) (K.faults after)) result) }
+
+    ensures door { result ≡ DoorFault → Rose (D.faults outside.old.door) (D.faults outside.new.door) }
 
     // A script that was run was read to its end.
     ensures read_out { AreWordsOf Drill words.now → result ≡ Done → IsAtEnd (I.left outside.new.source) }
@@ -113,18 +142,21 @@ where
         (K.content before ≡ Some []) × (Rose (K.faults before) (K.faults after) → ⊥))
         → (Rose (O.faults outside.old.sink) (O.faults outside.new.sink) → ⊥)
         → (result ≡ Done) ⊎ (result ≡ OutOfMemory) }
+
+    // So is a wiki of a layout served, if there is one.
+    ensures complete_serve { (wanted : ℕ) → AreServeWords wanted words.now
+        → IsExposed (I.left outside.old.source) IsLayout
+        → OfKeepers outside.old.keeper outside.new.keeper (λ before after. Rose (K.faults before) (K.faults after) → ⊥)
+        → (Rose (I.faults outside.old.source) (I.faults outside.new.source) → ⊥)
+        → (Rose (O.faults outside.old.sink) (O.faults outside.new.sink) → ⊥)
+        → (Rose (D.faults outside.old.door) (D.faults outside.new.door) → ⊥)
+        → (result ≡ Done) ⊎ (result ≡ OutOfMemory) }
 {
     let Some(command) = read_command(words) else {
         return refuse(&mut outside.sink, USAGE, Status::Usage);
     };
     let keeper = outside.keeper.take().unwrap();
-    let ended = perform(
-        alloc,
-        command,
-        &mut outside.source,
-        keeper,
-        &mut outside.sink,
-    );
+    let ended = perform(alloc, command, outside, keeper);
     outside.keeper = Some(ended.keeper);
     ended.status
 }

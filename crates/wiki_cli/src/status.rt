@@ -19,8 +19,12 @@ pub enum Status {
     StoreFault,
     /// Memory ran out.
     Memory,
+    /// The door failed when it was asked for a connection.
+    DoorFault,
     /// The history that a script was to begin has entries already.
     NotEmpty { entries: u64 },
+    /// The layout breaks this rule first.
+    Layout { rule: u8 },
 }
 
 impl Status {
@@ -36,7 +40,9 @@ impl Status {
             Status::WriteFault => 5,
             Status::StoreFault => 6,
             Status::Memory => 7,
+            Status::DoorFault => 8,
             Status::NotEmpty { .. } => 9,
+            Status::Layout { .. } => 10,
         }
     }
 }

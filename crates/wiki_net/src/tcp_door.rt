@@ -4,16 +4,18 @@ use crate::tcp_conn::TcpConn;
 use farm_base::{Door, OutFault};
 use std::alloc::Global;
 use std::io;
+use std::io::ErrorKind;
 use std::net::{Net, SocketAddr, TcpListener, TcpStream};
 use std::time::{self, Instant};
 
 /// A door at a port. It exposes no connections, and always has more. A connection that the system does not give, or
-/// that cannot be made ready, is a counted fault.
+/// that cannot be made ready, is a counted fault, and so is each call of a door that is shut.
 #[derive(Drop)]
 pub struct TcpDoor<'a, R> {
     rt: &'a R,
     alloc: Global,
-    listener: TcpListener,
+    /// None: it is shut.
+    listener: Option<TcpListener>,
     faults: u64,
 }
 
@@ -24,14 +26,27 @@ impl<'a, R: Net<Listener = TcpListener, Stream = TcpStream> + time::Clock> TcpDo
         Ok(TcpDoor {
             rt,
             alloc,
-            listener,
+            listener: Some(listener),
             faults: 0,
         })
     }
 
+    /// A door at no port: it is asked in vain, each time. No fault is counted.
+    pub fn shut(rt: &'a R, alloc: Global) -> Self {
+        TcpDoor {
+            rt,
+            alloc,
+            listener: None,
+            faults: 0,
+        }
+    }
+
     /// Where it listens.
     pub fn address(&self) -> io::Result<SocketAddr> {
-        self.listener.local_addr()
+        match &self.listener {
+            Some(listener) => listener.local_addr(),
+            None => Err(io::Error::from(ErrorKind::NotConnected)),
+        }
     }
 }
 
@@ -48,7 +63,7 @@ impl<'a, R: Net<Listener = TcpListener, Stream = TcpStream> + time::Clock> Door 
 
     /// Waits for a client. It never says that there are no more.
     fn next(&mut self) -> Result<Option<TcpConn<'a, R>>, OutFault> {
-        match accept(self.rt, self.alloc, &self.listener) {
+        match accept(self.rt, self.alloc, self.listener.as_ref()) {
             Ok(conn) => Ok(Some(conn)),
             Err(_) => {
                 self.faults = self.faults.saturating_add(1);
@@ -67,8 +82,11 @@ impl<'a, R: Net<Listener = TcpListener, Stream = TcpStream> + time::Clock> Door 
 fn accept<'a, R: time::Clock>(
     rt: &'a R,
     alloc: Global,
-    listener: &TcpListener,
+    listener: Option<&TcpListener>,
 ) -> io::Result<TcpConn<'a, R>> {
+    let Some(listener) = listener else {
+        return Err(io::Error::from(ErrorKind::NotConnected));
+    };
     let (stream, peer) = listener.accept()?;
     stream.set_nodelay(true)?;
     let peer = format!(in alloc; "{}", peer.ip())?;
