@@ -1,7 +1,7 @@
 //! Tests of hosted wikis.
 //!
-//! A proof says that a hosting is one run over the connections of a door; these tests hold whole hostings over a door in
-//! memory. Where a new test goes:
+//! A proof says that a hosting is one run over the connections of a door; these tests hold whole hostings over a door
+//! in memory. Where a new test goes:
 //!
 //! - `visits`: connections that are served one after another, byte for byte, and handed back;
 //! - `openings`: layouts, histories that are there already, and keepers that fail;

@@ -9,6 +9,7 @@
 //! - `prefixes`: which prefix a page is of, and which replica answers;
 //! - `refusals`: scripts outside the grammar;
 //! - `words`: words that are no command, scripts that are made, and the number of each status;
+//! - `serving`: layouts that are read, and connections that are served;
 //! - `streams`: reads and writes that fail;
 //! - `keepers`: keepers that fail, that are not empty, and that are given back;
 //! - `setting`: what they share: one run, its status, its text and its keeper;
@@ -30,6 +31,8 @@ mod pages;
 mod prefixes;
 #[cfg(test)]
 mod refusals;
+#[cfg(test)]
+mod serving;
 #[cfg(test)]
 mod setting;
 #[cfg(test)]

@@ -97,7 +97,8 @@ pub fn run_over<I: Source + Drop, O: Sink + Drop, K: Keeper + Drop>(
     }
 }
 
-fn owned(alloc: Global, words: &[&str]) -> Result<Vec<String>, Fail> {
+/// The words as texts of their own.
+pub fn owned(alloc: Global, words: &[&str]) -> Result<Vec<String>, Fail> {
     let mut owned = Vec::new(alloc);
     for word in words {
         owned.push(String::from_str(alloc, word)?)?;
