@@ -654,6 +654,7 @@ pub struct Lent<S> {
 // A cache is lent to a round, and given back.
 impl<K: Keeper, S: RegionStore<Page> + Drop> Farm<K, S> {
     ghost use Rattle.std.specs.Prelude.{◌≡◌, ◌≤◌, false, Some, None, IsSome};
+    ghost use Rattle.wiki_model.specs.Limits.{greatest_moment};
     ghost use Rattle.farm_steps.specs.Moments.{moment_of};
     ghost use Rattle.farm_core.specs.LendCache.{without_cache, with_given, GivesBack};
     ghost use Rattle.farm_core.specs.Runs.{advanced};
@@ -663,6 +664,8 @@ impl<K: Keeper, S: RegionStore<Page> + Drop> Farm<K, S> {
         requires { IsSome (region_at region self.old.home self.old.west).cache }
         ensures cache { (region_at region self.old.home self.old.west).cache ≡ Some result.cache }
         ensures now { result.now ≡ moment_of region self.old.moments }
+        ensures early { (S.cache result.cache).greatest ≤ result.now }
+        ensures small { result.now ≤ greatest_moment }
         ensures farm { self.new ≡ without_cache region self.old }
     {
         let now = moment_of(self.moments, region);
@@ -670,11 +673,14 @@ impl<K: Keeper, S: RegionStore<Page> + Drop> Farm<K, S> {
         Lent { cache, now }
     }
 
-    /// Hands out a region's cache for a round. Until it is given back no step may be called.
+    /// Hands out a region's cache for a round. Until it is given back no step may be called. No call of the cache was
+    /// given a later moment.
     pub fn lend(&mut self, region: Region, at: Readings) -> Lent<S>
         requires { IsSome (region_at region self.old.home self.old.west).cache }
         ensures cache { (region_at region self.old.home self.old.west).cache ≡ Some result.cache }
         ensures now { result.now ≡ moment_of region (advanced at self.old).moments }
+        ensures early { (S.cache result.cache).greatest ≤ result.now }
+        ensures small { result.now ≤ greatest_moment }
         ensures farm { self.new ≡ without_cache region (advanced at self.old) }
     {
         self.advance(at);

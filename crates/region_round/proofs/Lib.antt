@@ -1,0 +1,4 @@
+pub mod Testing
+pub mod Alone
+pub mod Sequence
+pub mod Going

@@ -1,0 +1,227 @@
+// The jobs of a round, in their order, on the cache itself.
+ghost use Rattle.std.specs.Prelude.{◌≡◌, ◌<◌, ◌≤◌, ◌+◌, List, [], ◌∷◌, ◌++◌, length};
+ghost use Rattle.wiki_model.specs.Limits.{greatest_moment};
+ghost use Rattle.farm_steps.specs.ViewSteps.{region_at};
+ghost use Rattle.region_state.specs.AsModel.{answer_of};
+ghost use Rattle.region_round.specs.Alone.{IsReady, Kept};
+ghost use Rattle.region_round.specs.declared.job.Job.{Job as CodeJob};
+ghost use Rattle.region_round.specs.AsModel.{answers_of};
+ghost use Rattle.region_round.specs.Jobs.{AreProper, DoesAll, IsProper, IsPurgeAt, Receives, ReceivesAll, Views};
+ghost use Rattle.region_round.specs.Jobs.{sight_of, terms_at};
+ghost use Rattle.wiki_model.specs.Titles.{Title as ModelTitle};
+
+use crate::desk::{Alone, take_alone};
+use crate::do_view::{ViewTerms, do_view};
+use crate::gate::Gate;
+use crate::job::{Job, ViewJob};
+use farm_base::{Moment, Region};
+use farm_core::Farm;
+use page_render::Page;
+use purge_relay::Body;
+use region_state::{Answer, PageRules};
+use revision_keeper::Keeper;
+use slot_cache::SlotCache;
+use std::alloc::Global;
+use wan_cache::RegionStore;
+use wiki_titles::Title;
+
+/// What all jobs of a round go by.
+#[derive(Clone, Copy, Debug)]
+pub(crate) struct RoundTerms {
+    /// The region's moment.
+    pub at: Moment,
+    /// No page counts that was cached before this moment.
+    pub epoch: Moment,
+    pub rules: PageRules,
+}
+
+/// What the jobs of a round at this moment go by.
+pub(crate) fn terms_at<K: Keeper>(farm: &Farm<K, SlotCache<Page>>, now: Moment) -> RoundTerms
+    ensures { result ≡ terms_at now farm.now }
+{
+    let plan = farm.plan();
+    RoundTerms {
+        at: now,
+        epoch: plan.epoch,
+        rules: PageRules {
+            read_lag: plan.bounds.read_lag,
+            markup: farm.markup(),
+        },
+    }
+}
+
+/// A region's cache that was lent, with where it is from.
+#[derive(Drop)]
+pub(crate) struct LentCache {
+    pub region: Region,
+    pub cache: SlotCache<Page>,
+    pub terms: RoundTerms,
+}
+
+/// Does the jobs in their order. There is room for their answers.
+pub(crate) fn do_all<K: Keeper, G: Gate>(
+    alloc: Global,
+    farm: &Farm<K, SlotCache<Page>>,
+    lent: &mut LentCache,
+    jobs: &[Job],
+    gate: &G,
+    answers: &mut Vec<Answer>,
+)
+    requires ready { IsReady lent.old.cache lent.old.terms.at }
+    requires small { lent.old.terms.at ≤ greatest_moment }
+    requires proper { AreProper lent.old.region farm.now.ledger.rows jobs.now }
+    requires empty { answers.old.items ≡ [] }
+    requires room { length jobs.now ≤ answers.old.cap }
+    ensures ready { IsReady lent.new.cache lent.old.terms.at }
+    ensures region { lent.new.region ≡ lent.old.region }
+    ensures terms { lent.new.terms ≡ lent.old.terms }
+    ensures does { DoesAll lent.old.region (sight_of lent.old.region farm.now) lent.old.terms jobs.now
+        (answers_of answers.new.items) lent.old.cache lent.new.cache }
+{
+    let mut number: usize = 0;
+    for job in jobs.iter() {
+        gate.pass(number);
+        number += 1;
+        do_one(alloc, farm, lent, job, answers);
+    }
+}
+
+/// Does one more job. There is room for its answer.
+#[tactic(auto, using(crate::proofs::Sequence::then_view, crate::proofs::Sequence::then_receipt))]
+fn do_one<K: Keeper>(
+    alloc: Global,
+    farm: &Farm<K, SlotCache<Page>>,
+    lent: &mut LentCache,
+    job: &Job,
+    answers: &mut Vec<Answer>,
+)
+    requires ready { IsReady lent.old.cache lent.old.terms.at }
+    requires small { lent.old.terms.at ≤ greatest_moment }
+    requires proper { IsProper lent.old.region farm.now.ledger.rows job.now }
+    requires room { length answers.old.items < answers.old.cap }
+    ensures ready { IsReady lent.new.cache lent.old.terms.at }
+    ensures region { lent.new.region ≡ lent.old.region }
+    ensures terms { lent.new.terms ≡ lent.old.terms }
+    ensures room { answers.old.cap ≤ answers.new.cap }
+    ensures few { length answers.new.items ≤ length answers.old.items + 1 }
+    ensures does { (jobs : List CodeJob) (first : Kept)
+        → DoesAll lent.old.region (sight_of lent.old.region farm.now) lent.old.terms jobs (answers_of answers.old.items)
+        first lent.old.cache
+        → DoesAll lent.old.region (sight_of lent.old.region farm.now) lent.old.terms (jobs ++ job.now ∷ [])
+        (answers_of answers.new.items) first lent.new.cache }
+{
+    match job {
+        Job::View(view) => {
+            let answer = view_alone(alloc, farm, lent, view);
+            push_answer(answers, answer);
+        }
+        Job::Receipt(purge) => receive(farm, lent, *purge),
+    }
+}
+
+/// Adds an answer. There is room for it.
+#[tactic(auto, using(crate::proofs::Sequence::said_more))]
+fn push_answer(answers: &mut Vec<Answer>, answer: Answer)
+    requires room { length answers.old.items < answers.old.cap }
+    ensures room { answers.old.cap ≤ answers.new.cap }
+    ensures few { length answers.new.items ≡ length answers.old.items + 1 }
+    ensures said { answers_of answers.new.items ≡ answers_of answers.old.items ++ answer_of answer ∷ [] }
+{
+    let Ok(()) = answers.push(answer) else {
+        unreachable!()
+    };
+}
+
+/// Does a view on the cache itself.
+fn view_alone<K: Keeper>(
+    alloc: Global,
+    farm: &Farm<K, SlotCache<Page>>,
+    lent: &mut LentCache,
+    view: &ViewJob,
+) -> Answer
+    requires ready { IsReady lent.old.cache lent.old.terms.at }
+    requires small { lent.old.terms.at ≤ greatest_moment }
+    ensures ready { IsReady lent.new.cache lent.old.terms.at }
+    ensures region { lent.new.region ≡ lent.old.region }
+    ensures terms { lent.new.terms ≡ lent.old.terms }
+    ensures views { Views lent.old.region (sight_of lent.old.region farm.now) lent.old.terms view.now lent.old.cache
+        lent.new.cache (answer_of result) }
+{
+    let pending = farm.pending(lent.region, &view.title);
+    let terms = ViewTerms {
+        at: lent.terms.at,
+        epoch: lent.terms.epoch,
+        rules: lent.terms.rules,
+        pending,
+    };
+    let region = farm.region(lent.region);
+    let answer = do_view(alloc, &Alone, &mut lent.cache, region, view, &terms);
+    lent.cache.known();
+    answer
+}
+
+/// Gives the cache the purge of this number.
+fn receive<K: Keeper>(farm: &Farm<K, SlotCache<Page>>, lent: &mut LentCache, number: u64)
+    requires ready { IsReady lent.old.cache lent.old.terms.at }
+    requires small { lent.old.terms.at ≤ greatest_moment }
+    requires purge { (title : ModelTitle) × IsPurgeAt farm.now.ledger.rows number title }
+    ensures ready { IsReady lent.new.cache lent.old.terms.at }
+    ensures region { lent.new.region ≡ lent.old.region }
+    ensures terms { lent.new.terms ≡ lent.old.terms }
+    ensures receives { Receives farm.now.ledger.rows number lent.old.terms.at lent.old.cache lent.new.cache }
+{
+    let title = purged_title(farm, number);
+    take_alone(&mut lent.cache, title, lent.terms.at);
+}
+
+/// The title of a purge that was issued.
+fn purged_title<'a, K: Keeper>(farm: &'a Farm<K, SlotCache<Page>>, number: u64) -> &'a Title
+    requires purge { (title : ModelTitle) × IsPurgeAt farm.now.ledger.rows number title }
+    ensures { IsPurgeAt farm.now.ledger.rows number result.now }
+{
+    let Some(message) = farm.message(number) else {
+        unreachable!()
+    };
+    match &message.body {
+        Body::Purge { title, .. } => title,
+        Body::Position { .. } => unreachable!(),
+    }
+}
+
+/// Gives the cache all purges, and does nothing else.
+pub(crate) fn receive_all<K: Keeper>(
+    farm: &Farm<K, SlotCache<Page>>,
+    lent: &mut LentCache,
+    jobs: &[Job],
+)
+    requires ready { IsReady lent.old.cache lent.old.terms.at }
+    requires small { lent.old.terms.at ≤ greatest_moment }
+    requires proper { AreProper lent.old.region farm.now.ledger.rows jobs.now }
+    ensures ready { IsReady lent.new.cache lent.old.terms.at }
+    ensures region { lent.new.region ≡ lent.old.region }
+    ensures terms { lent.new.terms ≡ lent.old.terms }
+    ensures receives { ReceivesAll farm.now.ledger.rows lent.old.terms.at jobs.now lent.old.cache lent.new.cache }
+{
+    for job in jobs.iter() {
+        receive_one(farm, lent, job);
+    }
+}
+
+/// Gives the cache the purge of one more job, if it is a receipt.
+#[tactic(auto, using(crate::proofs::Sequence::received_more, crate::proofs::Sequence::not_received))]
+fn receive_one<K: Keeper>(farm: &Farm<K, SlotCache<Page>>, lent: &mut LentCache, job: &Job)
+    requires ready { IsReady lent.old.cache lent.old.terms.at }
+    requires small { lent.old.terms.at ≤ greatest_moment }
+    requires proper { IsProper lent.old.region farm.now.ledger.rows job.now }
+    ensures ready { IsReady lent.new.cache lent.old.terms.at }
+    ensures region { lent.new.region ≡ lent.old.region }
+    ensures terms { lent.new.terms ≡ lent.old.terms }
+    ensures receives { (jobs : List CodeJob) (first : Kept)
+        → ReceivesAll farm.now.ledger.rows lent.old.terms.at jobs first lent.old.cache
+        → ReceivesAll farm.now.ledger.rows lent.old.terms.at (jobs ++ job.now ∷ []) first lent.new.cache }
+{
+    match job {
+        Job::View(_) => {}
+        Job::Receipt(purge) => receive(farm, lent, *purge),
+    }
+}

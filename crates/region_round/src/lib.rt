@@ -1,0 +1,35 @@
+//! Rounds: a batch of pages of one region, rendered at one moment on its cache, with purges that west receives among
+//! them.
+//!
+//! A page that nobody keeps costs a hundred times one that the cache has, so whoever asks for many at once wants them
+//! rendered side by side, and yet on one cache, which must lose no purge. (1) The farm *lends* the region's cache:
+//! until it is back no step may be made, so all jobs of a round see one history and one moment. (2) A view job looks
+//! into the cache; if it misses, it takes a snapshot from a replica, renders it, puts it by the rule and answers it. A
+//! receipt job gives the cache a purge. (3) The cache goes back to the farm together with the receipts, and the farm
+//! stands for the longer run: a round is one step.
+//!
+//! How a cache is looked into and what may be put stands behind [`desk::Desk`], once for the cache itself.
+//!
+//! What is left to others: what is kept of a page is `region_state`'s and the cache's to say, that a run goes on by a
+//! round is shown by `farm_core`'s `lend` and `give_back` with the laws of `wiki_model`, and which titles make a batch
+//! is the caller's.
+//!
+//! ```text
+//! round(rt, alloc, farm, RoundAsk { region: West, jobs: [view of A with need 1, receipt 1, view of A], at }, gate)
+//!     Ok([A from replica 0, put whole; A from replica 0, put interim]): the receipt holds A off
+//! ```
+#![tactic(auto)]
+
+mod desk;
+mod do_jobs;
+mod do_view;
+mod gate;
+mod job;
+mod proper_jobs;
+mod run_round;
+
+pub use farm_base::Memory;
+pub use gate::{Gate, OpenGate};
+pub use job::{Job, ViewJob};
+pub use proper_jobs::{are_proper, can_receive};
+pub use run_round::{JOBS_MAX, RoundAsk, round};
