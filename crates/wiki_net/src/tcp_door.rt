@@ -1,5 +1,4 @@
 // A door that takes connections over TCP.
-
 use crate::tcp_conn::TcpConn;
 use farm_base::{Door, OutFault};
 use std::alloc::Global;
@@ -8,8 +7,11 @@ use std::io::ErrorKind;
 use std::net::{Net, SocketAddr, TcpListener, TcpStream};
 use std::time::{self, Instant};
 
-/// A door at a port. It exposes no connections, and always has more. A connection that the system does not give, or
-/// that cannot be made ready, is a counted fault, and so is each call of a door that is shut.
+// How often the system is asked for a connection before that counts as a fault.
+const TRIES: u32 = 16;
+
+/// A door at a port. It exposes no connections, and always has more. If the system gives none that can be made ready,
+/// not when it is asked a few times more either, that is a counted fault, and so is each call of a door that is shut.
 #[derive(Drop)]
 pub struct TcpDoor<'a, R> {
     rt: &'a R,
@@ -63,9 +65,9 @@ impl<'a, R: Net<Listener = TcpListener, Stream = TcpStream> + time::Clock> Door 
 
     /// Waits for a client. It never says that there are no more.
     fn next(&mut self) -> Result<Option<TcpConn<'a, R>>, OutFault> {
-        match accept(self.rt, self.alloc, self.listener.as_ref()) {
-            Ok(conn) => Ok(Some(conn)),
-            Err(_) => {
+        match next_conn(self.rt, self.alloc, self.listener.as_ref()) {
+            Some(conn) => Ok(Some(conn)),
+            None => {
                 self.faults = self.faults.saturating_add(1);
                 Err(OutFault::Failed)
             }
@@ -78,15 +80,27 @@ impl<'a, R: Net<Listener = TcpListener, Stream = TcpStream> + time::Clock> Door 
     }
 }
 
+// The next client's connection. Clients that are gone before theirs is ready are passed over, a few of them.
+fn next_conn<'a, R: time::Clock>(
+    rt: &'a R,
+    alloc: Global,
+    listener: Option<&TcpListener>,
+) -> Option<TcpConn<'a, R>> {
+    let listener = listener?;
+    for _ in 0..TRIES {
+        if let Ok(conn) = accept(rt, alloc, listener) {
+            return Some(conn);
+        }
+    }
+    None
+}
+
 // A client's connection, which sends what is written at once.
 fn accept<'a, R: time::Clock>(
     rt: &'a R,
     alloc: Global,
-    listener: Option<&TcpListener>,
+    listener: &TcpListener,
 ) -> io::Result<TcpConn<'a, R>> {
-    let Some(listener) = listener else {
-        return Err(io::Error::from(ErrorKind::NotConnected));
-    };
     let (stream, peer) = listener.accept()?;
     stream.set_nodelay(true)?;
     let peer = format!(in alloc; "{}", peer.ip())?;
