@@ -220,8 +220,8 @@ module _ {K S : Type 0} (content : K → Option (List Entry)) (faults : K → �
       → Next (desk_of peer first) a conn kept now (unsent_of new sent_new) Stood (StandsSent content faults cache_of new sent_new) count result
   turn_whole peer first a b mid conn kept old new sent_old sent_new before now Stood count came what result peer_is plan_is heard_is unsent_is on arrives reacts responds =
       let same : desk_of mid.peer old ≡ desk_of peer first =
-          ap (λ (p : Bytes). let desk : Desk = record { peer = p; pace = old.plan.pace } in desk) peer_is
-          ∙ ap (λ (plan : FarmPlan). let desk : Desk = record { peer = peer; pace = plan.pace } in desk) plan_is in
+      ap (λ (p : Bytes). let desk : Desk = record { peer = p; pace = old.plan.pace } in desk) peer_is
+      ∙ ap (λ (plan : FarmPlan). let desk : Desk = record { peer = peer; pace = plan.pace } in desk) plan_is in
       subst (λ (d : Desk). Next d a conn kept now (unsent_of new sent_new) Stood (StandsSent content faults cache_of new sent_new) count result) same
-        (turn_done a b mid conn kept old new sent_old sent_new before now Stood count came what result heard_is unsent_is
-          (subst (λ (d : Desk). MayServeOn d a b Stood (StandsSent content faults cache_of old sent_old) count) (sym same) on) arrives reacts responds)
+      (turn_done a b mid conn kept old new sent_old sent_new before now Stood count came what result heard_is unsent_is
+      (subst (λ (d : Desk). MayServeOn d a b Stood (StandsSent content faults cache_of old sent_old) count) (sym same) on) arrives reacts responds)

@@ -21,8 +21,8 @@ pub page_start : (a : Answer) (p : PageAnswer) (start : Bytes) (lines : List (By
     → start ≡ head_of_length 200 true (length (arc_value p.page)) lines close → start ++ (if head then [] else page_of (answer_of a)) ≡ answer_bytes (answer_reply location (answer_of a) head close)
 page_start a p start lines location head close is lines_is start_is =
     subst (λ (b : Answer). start ++ (if head then [] else page_of (answer_of b)) ≡ answer_bytes (answer_reply location (answer_of b) head close)) (sym is)
-      (ap (λ (l : Bytes). l ++ (if head then [] else arc_value p.page))
-        (start_is ∙ ap (λ (ls : List (Bytes × Bytes)). head_of_length 200 true (length (arc_value p.page)) ls close) (lines_is ∙ ap (λ (b : Answer). answer_lines location (answer_of b)) is)))
+    (ap (λ (l : Bytes). l ++ (if head then [] else arc_value p.page))
+    (start_is ∙ ap (λ (ls : List (Bytes × Bytes)). head_of_length 200 true (length (arc_value p.page)) ls close) (lines_is ∙ ap (λ (b : Answer). answer_lines location (answer_of b)) is)))
 
 nothing : (head : Bool) (start : Bytes) → start ++ (if head then [] else []) ≡ start
 nothing true start = append-nil start

@@ -88,17 +88,12 @@ pub fn serve_conn<X: Conn, K: Keeper, S: RegionStore<Page>, C: Clock, L: Lots, W
 }
 
 /// Writes the response, and lets go of it.
-fn answer<X: Conn>(
-    alloc: Global,
-    conn: &mut X,
-    reaction: Reaction,
-    number: u64,
-) -> Option<ConnEnd>
+fn answer<X: Conn>(alloc: Global, conn: &mut X, reaction: Reaction, number: u64) -> Option<ConnEnd>
     ensures responds { Responds
         (conn_seen (X.peer conn.old) (X.left conn.old) (X.written conn.old) (X.Source.faults conn.old)
-          (X.Sink.faults conn.old))
+        (X.Sink.faults conn.old))
         (conn_seen (X.peer conn.new) (X.left conn.new) (X.written conn.new) (X.Source.faults conn.new)
-          (X.Sink.faults conn.new))
+        (X.Sink.faults conn.new))
         reaction number result }
     ensures peer { X.peer conn.new ≡ X.peer conn.old }
 {

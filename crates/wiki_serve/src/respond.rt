@@ -58,9 +58,9 @@ fn write_response<X: Conn>(
 ) -> Option<ConnEnd>
     ensures writes { WritesResponse
         (conn_seen (X.peer conn.old) (X.left conn.old) (X.written conn.old) (X.Source.faults conn.old)
-          (X.Sink.faults conn.old))
+        (X.Sink.faults conn.old))
         (conn_seen (X.peer conn.new) (X.left conn.new) (X.written conn.new) (X.Source.faults conn.new)
-          (X.Sink.faults conn.new))
+        (X.Sink.faults conn.new))
         (reaction_bytes reaction.now (closes || (number == requests_max))) closes number result }
     ensures peer { X.peer conn.new ≡ X.peer conn.old }
 {

@@ -14,7 +14,7 @@ requests-init g c =
     let farm = c.args.served.now.farm in
     let desk = desk_of (g.X.Conn.peer c.args.conn.now) farm in
     let a = seen_at (conn_seen (g.X.Conn.peer c.args.conn.now) (g.X.Source.left c.args.conn.now) (g.X.Sink.written c.args.conn.now) (g.X.Source.faults c.args.conn.now) (g.X.Sink.faults c.args.conn.now)) []
-        (heard_seen (g.C.Clock.exposed c.args.clock.now) (g.L.Lots.exposed c.args.lots.now) (g.W.Wire.carried c.args.wire.now) (g.W.Wire.refused c.args.wire.now) (g.W.Wire.empty c.args.wire.now)) (unsent_of farm c.args.served.now.sent) in
+    (heard_seen (g.C.Clock.exposed c.args.clock.now) (g.L.Lots.exposed c.args.lots.now) (g.W.Wire.carried c.args.wire.now) (g.W.Wire.refused c.args.wire.now) (g.W.Wire.empty c.args.wire.now)) (unsent_of farm c.args.served.now.sent) in
     let Stood = StandsSent g.K.Keeper.content g.K.Keeper.faults g.S.RegionStore.cache farm c.args.served.now.sent in
     record {
       few = omega arith;
@@ -30,7 +30,7 @@ returns-in-Some-clause-served g c =
     let farm = c.args.served.now.farm in
     let desk = desk_of (g.X.Conn.peer c.args.conn.now) farm in
     let a = seen_at (conn_seen (g.X.Conn.peer c.args.conn.now) (g.X.Source.left c.args.conn.now) (g.X.Sink.written c.args.conn.now) (g.X.Source.faults c.args.conn.now) (g.X.Sink.faults c.args.conn.now)) []
-        (heard_seen (g.C.Clock.exposed c.args.clock.now) (g.L.Lots.exposed c.args.lots.now) (g.W.Wire.carried c.args.wire.now) (g.W.Wire.refused c.args.wire.now) (g.W.Wire.empty c.args.wire.now)) (unsent_of farm c.args.served.now.sent) in
+    (heard_seen (g.C.Clock.exposed c.args.clock.now) (g.L.Lots.exposed c.args.lots.now) (g.W.Wire.carried c.args.wire.now) (g.W.Wire.refused c.args.wire.now) (g.W.Wire.empty c.args.wire.now)) (unsent_of farm c.args.served.now.sent) in
     let Stood = StandsSent g.K.Keeper.content g.K.Keeper.faults g.S.RegionStore.cache farm c.args.served.now.sent in
     let old = c.requests.served.farm in
     let new = c.serve_arrival-reaction.new.served.farm in
@@ -41,10 +41,10 @@ returns-in-Some-clause-served g c =
     let conn = (conn_seen (g.X.Conn.peer c.answer.new.conn) (g.X.Source.left c.answer.new.conn) (g.X.Sink.written c.answer.new.conn) (g.X.Source.faults c.answer.new.conn) (g.X.Sink.faults c.answer.new.conn)) in
     let kept = c.read_arrival-arrival.new.kept.items in
     let next =
-        turn_whole g.K.Keeper.content g.K.Keeper.faults g.S.RegionStore.cache (g.X.Conn.peer c.args.conn.now) farm a b mid conn kept old new c.requests.served.sent c.serve_arrival-reaction.new.served.sent before now Stood c.requests.answered
-          c.read_arrival-arrival.result c.serve_arrival-reaction.result c.answer.result
-          (c.read_arrival-arrival.ensures.peer ∙ c.requests.invariant.peer) c.requests.invariant.shape.plan refl refl c.requests.invariant.served
-          c.read_arrival-arrival.ensures.arrives (c.serve_arrival-reaction.ensures.reacts (g.X.Conn.peer c.read_arrival-arrival.new.conn)) c.answer.ensures.responds in
+    turn_whole g.K.Keeper.content g.K.Keeper.faults g.S.RegionStore.cache (g.X.Conn.peer c.args.conn.now) farm a b mid conn kept old new c.requests.served.sent c.serve_arrival-reaction.new.served.sent before now Stood c.requests.answered
+    c.read_arrival-arrival.result c.serve_arrival-reaction.result c.answer.result
+    (c.read_arrival-arrival.ensures.peer ∙ c.requests.invariant.peer) c.requests.invariant.shape.plan refl refl c.requests.invariant.served
+    c.read_arrival-arrival.ensures.arrives (c.serve_arrival-reaction.ensures.reacts (g.X.Conn.peer c.read_arrival-arrival.new.conn)) c.answer.ensures.responds in
     let Later = StandsSent g.K.Keeper.content g.K.Keeper.faults g.S.RegionStore.cache new c.serve_arrival-reaction.new.served.sent in
     subst (Next desk a conn kept now (unsent_of new c.serve_arrival-reaction.new.served.sent) Stood Later c.requests.answered) c.in-Some.is next
 
@@ -53,7 +53,7 @@ requests-preserved g c =
     let farm = c.args.served.now.farm in
     let desk = desk_of (g.X.Conn.peer c.args.conn.now) farm in
     let a = seen_at (conn_seen (g.X.Conn.peer c.args.conn.now) (g.X.Source.left c.args.conn.now) (g.X.Sink.written c.args.conn.now) (g.X.Source.faults c.args.conn.now) (g.X.Sink.faults c.args.conn.now)) []
-        (heard_seen (g.C.Clock.exposed c.args.clock.now) (g.L.Lots.exposed c.args.lots.now) (g.W.Wire.carried c.args.wire.now) (g.W.Wire.refused c.args.wire.now) (g.W.Wire.empty c.args.wire.now)) (unsent_of farm c.args.served.now.sent) in
+    (heard_seen (g.C.Clock.exposed c.args.clock.now) (g.L.Lots.exposed c.args.lots.now) (g.W.Wire.carried c.args.wire.now) (g.W.Wire.refused c.args.wire.now) (g.W.Wire.empty c.args.wire.now)) (unsent_of farm c.args.served.now.sent) in
     let Stood = StandsSent g.K.Keeper.content g.K.Keeper.faults g.S.RegionStore.cache farm c.args.served.now.sent in
     let old = c.requests.served.farm in
     let new = c.serve_arrival-reaction.new.served.farm in
@@ -64,10 +64,10 @@ requests-preserved g c =
     let conn = (conn_seen (g.X.Conn.peer c.answer.new.conn) (g.X.Source.left c.answer.new.conn) (g.X.Sink.written c.answer.new.conn) (g.X.Source.faults c.answer.new.conn) (g.X.Sink.faults c.answer.new.conn)) in
     let kept = c.read_arrival-arrival.new.kept.items in
     let next =
-        turn_whole g.K.Keeper.content g.K.Keeper.faults g.S.RegionStore.cache (g.X.Conn.peer c.args.conn.now) farm a b mid conn kept old new c.requests.served.sent c.serve_arrival-reaction.new.served.sent before now Stood c.requests.answered
-          c.read_arrival-arrival.result c.serve_arrival-reaction.result c.answer.result
-          (c.read_arrival-arrival.ensures.peer ∙ c.requests.invariant.peer) c.requests.invariant.shape.plan refl refl c.requests.invariant.served
-          c.read_arrival-arrival.ensures.arrives (c.serve_arrival-reaction.ensures.reacts (g.X.Conn.peer c.read_arrival-arrival.new.conn)) c.answer.ensures.responds in
+    turn_whole g.K.Keeper.content g.K.Keeper.faults g.S.RegionStore.cache (g.X.Conn.peer c.args.conn.now) farm a b mid conn kept old new c.requests.served.sent c.serve_arrival-reaction.new.served.sent before now Stood c.requests.answered
+    c.read_arrival-arrival.result c.serve_arrival-reaction.result c.answer.result
+    (c.read_arrival-arrival.ensures.peer ∙ c.requests.invariant.peer) c.requests.invariant.shape.plan refl refl c.requests.invariant.served
+    c.read_arrival-arrival.ensures.arrives (c.serve_arrival-reaction.ensures.reacts (g.X.Conn.peer c.read_arrival-arrival.new.conn)) c.answer.ensures.responds in
     let Later = StandsSent g.K.Keeper.content g.K.Keeper.faults g.S.RegionStore.cache new c.serve_arrival-reaction.new.served.sent in
     let may = subst (Next desk a conn kept now (unsent_of new c.serve_arrival-reaction.new.served.sent) Stood Later c.requests.answered) c.in_default.is next in
     let small = may.may_go_on.1 in

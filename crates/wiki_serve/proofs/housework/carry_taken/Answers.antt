@@ -15,10 +15,10 @@ taking-preserved g c = record {
   few = let small = c.taking-test.true in omega (arith, small);
   takes =
       takes_more g.K.Keeper.content g.K.Keeper.faults g.S.RegionStore.cache c.args.farm.now c.taking.farm c.carry_one.new.farm c.args.at.now
-        (wire_seen (g.W.Wire.carried c.args.wire.now) (g.W.Wire.refused c.args.wire.now) (g.W.Wire.empty c.args.wire.now)) (wire_seen (g.W.Wire.carried c.taking.wire) (g.W.Wire.refused c.taking.wire) (g.W.Wire.empty c.taking.wire)) (wire_seen (g.W.Wire.carried c.take.new.self) (g.W.Wire.refused c.take.new.self) (g.W.Wire.empty c.take.new.self))
-        c.taking.count (taken_of c.in-Ok-Some.message) c.taking.invariant.takes
-        (c.in-Ok-Some.ensures.taken ∙ ap (λ m. option_map (maybe_taken m) (g.W.Wire.carried c.taking.wire)) c.in-Ok-Some.field-0-is ∙ taken_one (g.W.Wire.carried c.taking.wire) c.in-Ok-Some.message)
-        c.take.ensures.sends
-        (c.take.ensures.counted ∙ ap (λ r. empty_after r (g.W.Wire.empty c.taking.wire)) (c.in-Ok-Some.is ∙ ap (λ m. Ok m) c.in-Ok-Some.field-0-is))
-        c.carry_one.ensures;
+      (wire_seen (g.W.Wire.carried c.args.wire.now) (g.W.Wire.refused c.args.wire.now) (g.W.Wire.empty c.args.wire.now)) (wire_seen (g.W.Wire.carried c.taking.wire) (g.W.Wire.refused c.taking.wire) (g.W.Wire.empty c.taking.wire)) (wire_seen (g.W.Wire.carried c.take.new.self) (g.W.Wire.refused c.take.new.self) (g.W.Wire.empty c.take.new.self))
+      c.taking.count (taken_of c.in-Ok-Some.message) c.taking.invariant.takes
+      (c.in-Ok-Some.ensures.taken ∙ ap (λ m. option_map (maybe_taken m) (g.W.Wire.carried c.taking.wire)) c.in-Ok-Some.field-0-is ∙ taken_one (g.W.Wire.carried c.taking.wire) c.in-Ok-Some.message)
+      c.take.ensures.sends
+      (c.take.ensures.counted ∙ ap (λ r. empty_after r (g.W.Wire.empty c.taking.wire)) (c.in-Ok-Some.is ∙ ap (λ m. Ok m) c.in-Ok-Some.field-0-is))
+      c.carry_one.ensures;
 }

@@ -6,8 +6,8 @@ abbrev pub invariant-taking : goal.invariant-taking
 invariant-taking g l = record {
   few : l.count ≤ 256;
   takes : IsTaking g.K.Keeper.content g.K.Keeper.faults g.S.RegionStore.cache l.fn.farm l.farm l.at
-    (wire_seen (g.W.Wire.carried l.fn.wire) (g.W.Wire.refused l.fn.wire) (g.W.Wire.empty l.fn.wire))
-    (wire_seen (g.W.Wire.carried l.wire) (g.W.Wire.refused l.wire) (g.W.Wire.empty l.wire)) l.count;
+      (wire_seen (g.W.Wire.carried l.fn.wire) (g.W.Wire.refused l.fn.wire) (g.W.Wire.empty l.fn.wire))
+      (wire_seen (g.W.Wire.carried l.wire) (g.W.Wire.refused l.wire) (g.W.Wire.empty l.wire)) l.count;
 }
 
 abbrev pub decreases-taking : goal.decreases-taking

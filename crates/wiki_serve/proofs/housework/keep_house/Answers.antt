@@ -11,7 +11,7 @@ returns g c =
     let f2 = c.beat_if_due.new.farm in
     let f3 = c.apply_region.new.farm in
     house_kept g.K.Keeper.content g.K.Keeper.faults g.S.RegionStore.cache c.args.served.now.farm f1 f2 f3 c.apply_region-2.new.farm c.args.at.now c.args.served.now.sent c.send_unsent.new.sent
-      (wire_seen (g.W.Wire.carried c.args.wire.now) (g.W.Wire.refused c.args.wire.now) (g.W.Wire.empty c.args.wire.now)) (wire_seen (g.W.Wire.carried c.send_unsent.new.wire) (g.W.Wire.refused c.send_unsent.new.wire) (g.W.Wire.empty c.send_unsent.new.wire)) (wire_seen (g.W.Wire.carried c.carry_taken.new.wire) (g.W.Wire.refused c.carry_taken.new.wire) (g.W.Wire.empty c.carry_taken.new.wire))
-      c.send_unsent.ensures c.carry_taken.ensures c.beat_if_due.ensures
-      (subst (λ (plan : FarmPlan). AppliesTo g.K.Keeper.content g.K.Keeper.faults g.S.RegionStore.cache f2 f3 c.args.at.now Home plan.pace (length f2.home.replicas)) c.plan.ensures c.apply_region.ensures)
-      (subst (λ (plan : FarmPlan). AppliesTo g.K.Keeper.content g.K.Keeper.faults g.S.RegionStore.cache f3 c.apply_region-2.new.farm c.args.at.now West plan.pace (length f3.west.replicas)) c.plan.ensures c.apply_region-2.ensures)
+    (wire_seen (g.W.Wire.carried c.args.wire.now) (g.W.Wire.refused c.args.wire.now) (g.W.Wire.empty c.args.wire.now)) (wire_seen (g.W.Wire.carried c.send_unsent.new.wire) (g.W.Wire.refused c.send_unsent.new.wire) (g.W.Wire.empty c.send_unsent.new.wire)) (wire_seen (g.W.Wire.carried c.carry_taken.new.wire) (g.W.Wire.refused c.carry_taken.new.wire) (g.W.Wire.empty c.carry_taken.new.wire))
+    c.send_unsent.ensures c.carry_taken.ensures c.beat_if_due.ensures
+    (subst (λ (plan : FarmPlan). AppliesTo g.K.Keeper.content g.K.Keeper.faults g.S.RegionStore.cache f2 f3 c.args.at.now Home plan.pace (length f2.home.replicas)) c.plan.ensures c.apply_region.ensures)
+    (subst (λ (plan : FarmPlan). AppliesTo g.K.Keeper.content g.K.Keeper.faults g.S.RegionStore.cache f3 c.apply_region-2.new.farm c.args.at.now West plan.pace (length f3.west.replicas)) c.plan.ensures c.apply_region-2.ensures)

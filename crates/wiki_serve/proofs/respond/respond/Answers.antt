@@ -11,4 +11,4 @@ returns-in-None-clause-responds g c =
     let before = (conn_seen (g.X.Conn.peer c.args.conn.now) (g.X.Source.left c.args.conn.now) (g.X.Sink.written c.args.conn.now) (g.X.Source.faults c.args.conn.now) (g.X.Sink.faults c.args.conn.now)) in
     let now = (conn_seen (g.X.Conn.peer c.write_response.new.conn) (g.X.Source.left c.write_response.new.conn) (g.X.Sink.written c.write_response.new.conn) (g.X.Source.faults c.write_response.new.conn) (g.X.Sink.faults c.write_response.new.conn)) in
     responds_so before now c.args.reaction.now c.args.number c.write_response.result (sym c.ended.ensures ∙ c.in-None.is)
-      (subst (λ b. WritesResponse before now (reaction_bytes c.args.reaction.now (b || (c.args.number == requests_max))) b c.args.number c.write_response.result) c.closes.ensures c.write_response.ensures.writes)
+    (subst (λ b. WritesResponse before now (reaction_bytes c.args.reaction.now (b || (c.args.number == requests_max))) b c.args.number c.write_response.result) c.closes.ensures c.write_response.ensures.writes)

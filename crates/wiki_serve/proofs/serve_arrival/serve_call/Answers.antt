@@ -20,12 +20,12 @@ returns-in-Page-clause-does g c peer from =
     let old = c.args.served.now.farm in
     let ask : ViewAsk = record { host = c.region_of_host.result; client = c.client_of-client.result; cookie = c.live_cookie-cookie.result; use_master = c.args.visit.request.cookies.use_master; word = c.word.result; title = c.in-Page.title } in
     page_called g.K.Keeper.content g.K.Keeper.faults g.S.RegionStore.cache (desk_of peer old) old c.serve_view.new.served.farm c.args.served.now.sent c.serve_view.new.served.sent c.args.at.now
-      (g.L.Lots.exposed c.args.lots.now) (g.L.Lots.exposed c.word.new.self)
-      (wire_seen (g.W.Wire.carried c.args.wire.now) (g.W.Wire.refused c.args.wire.now) (g.W.Wire.empty c.args.wire.now)) (wire_seen (g.W.Wire.carried c.serve_view.new.wire) (g.W.Wire.refused c.serve_view.new.wire) (g.W.Wire.empty c.serve_view.new.wire))
-      request c.word.result c.in-Page.title (view_of ask) (option_map answer_of c.serve_view.result) refl (ap call_shown c.in-Page.is)
-      (view_same (desk_of peer old) c.moment_for-now.result (moment_of (region_of request) (moments_at c.args.at.now old.moments)) c.word.result request c.in-Page.title c.region_of_host.result c.client_of-client.result c.args.visit.stranger (option_map cookie_of c.live_cookie-cookie.result)
-        c.moment_for-now.ensures (c.region_of_host.ensures ∙ ap region_of_host c.deref.ensures) c.live_cookie-cookie.ensures c.client_of-client.ensures from)
-      c.word.ensures c.serve_view.ensures
+    (g.L.Lots.exposed c.args.lots.now) (g.L.Lots.exposed c.word.new.self)
+    (wire_seen (g.W.Wire.carried c.args.wire.now) (g.W.Wire.refused c.args.wire.now) (g.W.Wire.empty c.args.wire.now)) (wire_seen (g.W.Wire.carried c.serve_view.new.wire) (g.W.Wire.refused c.serve_view.new.wire) (g.W.Wire.empty c.serve_view.new.wire))
+    request c.word.result c.in-Page.title (view_of ask) (option_map answer_of c.serve_view.result) refl (ap call_shown c.in-Page.is)
+    (view_same (desk_of peer old) c.moment_for-now.result (moment_of (region_of request) (moments_at c.args.at.now old.moments)) c.word.result request c.in-Page.title c.region_of_host.result c.client_of-client.result c.args.visit.stranger (option_map cookie_of c.live_cookie-cookie.result)
+    c.moment_for-now.ensures (c.region_of_host.ensures ∙ ap region_of_host c.deref.ensures) c.live_cookie-cookie.ensures c.client_of-client.ensures from)
+    c.word.ensures c.serve_view.ensures
 
 pub returns-in-Edit-clause-does : goal.returns-in-Edit-clause-does
 returns-in-Edit-clause-does g c peer from =
@@ -33,17 +33,17 @@ returns-in-Edit-clause-does g c peer from =
     let old = c.args.served.now.farm in
     let ask : EditAsk = record { client = c.client_of-client.result; token = c.in-Edit.token; title = c.in-Edit.title; base = c.in-Edit.base; text = c.in-Edit.text } in
     edit_called g.K.Keeper.content g.K.Keeper.faults g.S.RegionStore.cache (desk_of peer old) old c.serve_edit.new.served.farm c.args.served.now.sent c.serve_edit.new.served.sent c.args.at.now
-      (g.L.Lots.exposed c.args.lots.now)
-      (wire_seen (g.W.Wire.carried c.args.wire.now) (g.W.Wire.refused c.args.wire.now) (g.W.Wire.empty c.args.wire.now)) (wire_seen (g.W.Wire.carried c.serve_edit.new.wire) (g.W.Wire.refused c.serve_edit.new.wire) (g.W.Wire.empty c.serve_edit.new.wire))
-      request c.in-Edit.title c.in-Edit.base c.in-Edit.token c.in-Edit.text (edit_of ask) (option_map answer_of c.serve_edit.result) refl (ap call_shown c.in-Edit.is)
-      (edit_same (desk_of peer old) c.moment_for-now.result (moment_of (region_of request) (moments_at c.args.at.now old.moments)) c.in-Edit.base request c.in-Edit.title c.in-Edit.token c.in-Edit.text c.client_of-client.result c.args.visit.stranger (option_map cookie_of c.live_cookie-cookie.result)
-        c.moment_for-now.ensures c.live_cookie-cookie.ensures c.client_of-client.ensures from)
-      c.serve_edit.ensures
+    (g.L.Lots.exposed c.args.lots.now)
+    (wire_seen (g.W.Wire.carried c.args.wire.now) (g.W.Wire.refused c.args.wire.now) (g.W.Wire.empty c.args.wire.now)) (wire_seen (g.W.Wire.carried c.serve_edit.new.wire) (g.W.Wire.refused c.serve_edit.new.wire) (g.W.Wire.empty c.serve_edit.new.wire))
+    request c.in-Edit.title c.in-Edit.base c.in-Edit.token c.in-Edit.text (edit_of ask) (option_map answer_of c.serve_edit.result) refl (ap call_shown c.in-Edit.is)
+    (edit_same (desk_of peer old) c.moment_for-now.result (moment_of (region_of request) (moments_at c.args.at.now old.moments)) c.in-Edit.base request c.in-Edit.title c.in-Edit.token c.in-Edit.text c.client_of-client.result c.args.visit.stranger (option_map cookie_of c.live_cookie-cookie.result)
+    c.moment_for-now.ensures c.live_cookie-cookie.ensures c.client_of-client.ensures from)
+    c.serve_edit.ensures
 
 pub returns-clause-does : goal.returns-clause-does
 returns-clause-does g c peer from =
     let old = c.args.served.now.farm in
     batch_called g.K.Keeper.content g.K.Keeper.faults g.S.RegionStore.cache (desk_of peer old) old c.keep_house.new.served.farm c.args.served.now.sent c.keep_house.new.served.sent c.args.at.now
-      (g.L.Lots.exposed c.args.lots.now)
-      (wire_seen (g.W.Wire.carried c.args.wire.now) (g.W.Wire.refused c.args.wire.now) (g.W.Wire.empty c.args.wire.now)) (wire_seen (g.W.Wire.carried c.keep_house.new.wire) (g.W.Wire.refused c.keep_house.new.wire) (g.W.Wire.empty c.keep_house.new.wire))
-      (request_shown c.args.visit.request) c.in-Batch.field-0.items refl (ap call_shown c.in-Batch.is) c.keep_house.ensures
+    (g.L.Lots.exposed c.args.lots.now)
+    (wire_seen (g.W.Wire.carried c.args.wire.now) (g.W.Wire.refused c.args.wire.now) (g.W.Wire.empty c.args.wire.now)) (wire_seen (g.W.Wire.carried c.keep_house.new.wire) (g.W.Wire.refused c.keep_house.new.wire) (g.W.Wire.empty c.keep_house.new.wire))
+    (request_shown c.args.visit.request) c.in-Batch.field-0.items refl (ap call_shown c.in-Batch.is) c.keep_house.ensures

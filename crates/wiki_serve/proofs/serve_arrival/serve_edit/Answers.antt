@@ -9,4 +9,4 @@ use Rattle.wiki_serve.proofs.serve_arrival.serve_edit.Goals as goal
 pub returns : goal.returns
 returns g c =
     serves_after g.K.Keeper.content g.K.Keeper.faults g.S.RegionStore.cache c.args.served.now.farm c.keep_house.new.served.farm c.make_edit.new.farm c.args.served.now.sent c.keep_house.new.served.sent c.args.at.now
-      (wire_seen (g.W.Wire.carried c.args.wire.now) (g.W.Wire.refused c.args.wire.now) (g.W.Wire.empty c.args.wire.now)) (wire_seen (g.W.Wire.carried c.keep_house.new.wire) (g.W.Wire.refused c.keep_house.new.wire) (g.W.Wire.empty c.keep_house.new.wire)) (AskedEdit (edit_of c.args.ask)) (option_map answer_of c.make_edit.result) c.keep_house.ensures c.make_edit.ensures
+    (wire_seen (g.W.Wire.carried c.args.wire.now) (g.W.Wire.refused c.args.wire.now) (g.W.Wire.empty c.args.wire.now)) (wire_seen (g.W.Wire.carried c.keep_house.new.wire) (g.W.Wire.refused c.keep_house.new.wire) (g.W.Wire.empty c.keep_house.new.wire)) (AskedEdit (edit_of c.args.ask)) (option_map answer_of c.make_edit.result) c.keep_house.ensures c.make_edit.ensures
