@@ -1,5 +1,5 @@
-//! The program `wiki`: its words, its streams, its files, its network, its clock and its memory are the process's own. All that it
-//! does and answers is `wiki_cli`'s; here the words are read, and a status becomes the process's.
+//! The program `wiki`: its words, its streams, its files, its network, its clock and its memory are the process's own.
+//! All that it does and answers is `wiki_cli`'s; here the words are read, and a status becomes the process's.
 #![tactic(auto)]
 
 use host_keeper::HostKeeper;
