@@ -76,7 +76,7 @@ module _ {P : Type 0} where
   -- What the seats did is in the cache that comes back.
   pub record Closes (is_true : Truth P) (share : ShareState P) (seats : List (SeatState P)) (now : ℕ)
       (new : SlotState P) : Type 0 where
-    -- each floor and check is the greatest of the one at sharing and those that the seats made
+    -- a floor or check is as it began, or the highest that any seat made of it since
     pub floors : (slot : ℕ) → slot < share.slots → slice_index new.floors slot
         ≡ greatest (slice_index share.start.floors.value.items slot) (map (made_by (floor_word slot)) seats)
     pub template : new.template_check ≡ greatest share.start.template_check (map (made_by template_word) seats)

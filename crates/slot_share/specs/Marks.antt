@@ -28,7 +28,7 @@ made_at word marks = slice_index marks.made word
 -- What holds of the words of marks between any two steps.
 pub record AreMarked (start words : List ℕ) (marks : List Marks) : Type 0 where
   pub first : slice_index words 0 ≡ 0
-  -- each mark is the greatest of the one at sharing and those that the seats made
+  -- a mark is as it began, or the highest that any seat made of it since
   pub greatest_is : (word : ℕ) → word < length start
       → slice_index words word ≡ greatest (slice_index start word) (map (made_at word) marks)
   -- no seat has seen more

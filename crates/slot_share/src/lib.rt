@@ -15,8 +15,8 @@
 //! Since the floor is loaded before the row is read, a hit was set at that floor or later. What each seat knows is kept
 //! in its view, which only clauses read: the floors and checks that it saw and made, the rows that it met, the values
 //! that it was handed. The table's rule ties the views to the words and rows between any two steps, of whatever thread.
-//! From it `close` promises that each floor and check is the greatest of the one at sharing and those that the seats
-//! made, so that no purge is lost, and that each value is one that was there or that a put was handed.
+//! From it `close` promises that no purge is lost: a floor or check comes back as it was when the share began, or as the
+//! highest that any seat made of it since. And each value is one that was there or that a put was handed.
 //!
 //! What a page must be to be stored at all is the caller's to say, by a `Marker`; whatever comes out of the share is
 //! then true in that sense. What a slot keeps is `slot_cache`'s, and the rules of a look and a put are `wan_cache`'s.
