@@ -1,22 +1,22 @@
 //! Threads that share one cache, without a lock and without waiting.
 //!
-//! A region renders many pages at once, and each of its threads wants the same cache. A lock would make all wait for one
-//! look, and a purge that waits, or gives up, is a page that stays too long. Here nobody waits. `share` takes a
+//! A region renders many pages at once, and each of its threads wants the same cache. A lock would make all wait for
+//! one look, and a purge that waits, or gives up, is a page that stays too long. Here nobody waits. `share` takes a
 //! `SlotCache` to pieces and lays it into a table of words and rows that change in single atomic steps, and deals up to
-//! eight seats. Each thread calls with a seat of its own; `Shared::close` takes all seats in and puts the cache together
-//! again. While it is shared there is no cache that one could call by mistake: `share` takes it by value.
+//! eight seats. Each thread calls with a seat of its own; `Shared::close` takes all seats in and puts the cache
+//! together again. While it is shared there is no cache that one could call by mistake: `share` takes it by value.
 //!
-//! Each slot has a floor, which only rises, and a claim, which is 0 or the number of the seat that holds the slot's row.
-//! A purge raises the floor in one step, whoever holds the slot: it needs no claim, so it is never refused. A look first
-//! loads the floor and the checks, then tries one claim. If it finds another seat's number it answers `Busy` with that
-//! number, and has lost one hit. Else it has the row for itself, copies what is there, and writes 0 back. A put does the
-//! same, and holds the claim no longer than it takes to store the value.
+//! Each slot has a floor, which only rises, and a claim, which is 0 or the number of the seat that holds the slot's
+//! row. A purge raises the floor in one step, whoever holds the slot: it needs no claim, so it is never refused. A look
+//! first loads the floor and the checks, then tries one claim. If it finds another seat's number it answers `Busy` with
+//! that number, and has lost one hit. Else it has the row for itself, copies what is there, and writes 0 back. A put
+//! does the same, and holds the claim no longer than it takes to store the value.
 //!
 //! Since the floor is loaded before the row is read, a hit was set at that floor or later. What each seat knows is kept
 //! in its view, which only clauses read: the floors and checks that it saw and made, the rows that it met, the values
 //! that it was handed. The table's rule ties the views to the words and rows between any two steps, of whatever thread.
-//! From it `close` promises that no purge is lost: a floor or check comes back as it was when the share began, or as the
-//! highest that any seat made of it since. And each value is one that was there or that a put was handed.
+//! From it `close` promises that no purge is lost: a floor or check comes back as it was when the share began, or as
+//! the highest that any seat made of it since. And each value is one that was there or that a put was handed.
 //!
 //! What a page must be to be stored at all is the caller's to say, by a `Marker`; whatever comes out of the share is
 //! then true in that sense. What a slot keeps is `slot_cache`'s, and the rules of a look and a put are `wan_cache`'s.
