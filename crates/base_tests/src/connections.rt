@@ -1,7 +1,7 @@
 // Connections, doors, clocks and lots in memory.
 use farm_base::{
     Clock, Conn, Door, Lots, MOMENT_MAX, MemClock, MemConn, MemDoor, MemLots, Moment, OutFault,
-    Readings, Sink, Source,
+    Readings, Sink, Source, write_both,
 };
 use std::alloc::Global;
 use std::test::Fail;
@@ -36,6 +36,19 @@ fn a_connection_moves_a_byte_at_a_time(rt: HostRuntime) -> Result<(), Fail> {
 }
 
 // A door over two connections, of which these calls fail.
+#[test]
+fn two_pieces_are_written_whole_or_up_to_a_failed_write(rt: HostRuntime) -> Result<(), Fail> {
+    let alloc = rt.alloc();
+    let mut conn = byte_by_byte(alloc, "", &[], &[])?;
+    assert!(rt; write_both(&mut conn, b"head", b"page").is_ok());
+    assert!(rt; write_both(&mut conn, b"", b"end").is_ok());
+    assert_eq!(rt; conn.written(), b"headpageend".as_slice());
+    let mut conn = byte_by_byte(alloc, "", &[], &[6])?;
+    assert!(rt; write_both(&mut conn, b"head", b"page").is_err());
+    assert_eq!(rt; conn.written(), b"headp".as_slice());
+    Ok(())
+}
+
 fn two_at_a_door(alloc: Global, failing: &[u64]) -> Result<MemDoor, Fail> {
     let mut conns = Vec::new(alloc);
     conns.push(byte_by_byte(alloc, "a", &[], &[])?)?;

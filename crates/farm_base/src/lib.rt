@@ -37,7 +37,7 @@ mod times;
 
 pub use bounds::{BOUND_MAX, Bounds};
 pub use clock_and_lots::{Clock, Lots};
-pub use connection::Conn;
+pub use connection::{Conn, write_both};
 pub use door::Door;
 pub use failing_calls::FailingCalls;
 pub use lists::{Listed, ListedText};

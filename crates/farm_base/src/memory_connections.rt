@@ -148,6 +148,12 @@ impl Conn for MemConn {
         self.peer.as_str()
     }
 
+    /// A write of the first piece.
+    fn write_two(&mut self, first: &[u8], second: &[u8]) -> Result<usize, OutFault> {
+        let _ = second;
+        self.write(first)
+    }
+
     fn shows_halves(&self) {}
 }
 

@@ -22,6 +22,10 @@ fn bytes_go_both_ways_over_a_connection(rt: HostRuntime) -> Result<(), Fail> {
     let mut answered = [0u8; 6];
     client.read_exact(&mut answered)?;
     assert_eq!(rt; &answered, b"answer");
+    assert!(rt; matches!(conn.write_two(b"both ", b"leave"), Ok(10)));
+    let mut both = [0u8; 10];
+    client.read_exact(&mut both)?;
+    assert_eq!(rt; &both, b"both leave");
     door.done(conn);
     assert_eq!(rt; client.read(&mut answered)?, 0);
     Ok(())

@@ -7,9 +7,10 @@
 //! Clocks and words cannot fail: a clock that the system does not read stands still ([`SystemClock`]), and a word that
 //! it does not give is made from the last ([`SystemLots`]).
 //!
-//! One connection is served at a time, so a client that is silent or slow must not stop the others. A connection has a
-//! limit of time from its begin, or from its last write that was taken whole, which ends a response; a read or a write
-//! that would go past it fails. So whoever sends nothing, or a byte now and then, is let go.
+//! One connection is served at a time, so a client that is silent or slow must not stop the others. A connection's
+//! reads and writes may wait for a limit of time, from its begin, or from its last write that was taken whole, which
+//! ends a response; a call that would go past it fails. So whoever sends nothing, or a byte now and then, is let go,
+//! and nobody for what the wiki or its disk takes.
 //!
 //! Who is served, and how, is left to `wiki_host` and `wiki_serve`.
 //!

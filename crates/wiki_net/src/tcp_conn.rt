@@ -1,35 +1,46 @@
 // A connection over TCP, with a limit of time.
-ghost use Rattle.std.specs.Prelude.{◌<◌, ◌≤◌, length, IfSome};
+ghost use Rattle.std.specs.Prelude.{◌≡◌, ◌<◌, ◌≤◌, ◌++◌, length, IfSome, Ok};
 
 use farm_base::{Conn, OutFault, Sink, Source};
-use std::io::{Read, Write};
+use std::io::{self, IoSlice, Read, Write};
 use std::net::TcpStream;
 use std::time::{self, Duration, Instant};
 
-/// How long a client may take for a request and its response.
+/// How long a client may keep the wiki waiting in a request and its response.
 pub const TIME_LIMIT: u64 = 800; // milliseconds
 
+// The system is told how long to wait in whole steps, so that a quick client costs no call for that.
+const STEP: u64 = 100; // milliseconds
+
+const STEPS: u64 = TIME_LIMIT / STEP;
+
 /// A connection over TCP. It exposes none of its bytes. Each error of the system is a counted fault, and so is a call
-/// that would go past the limit of time: [`TIME_LIMIT`] from the connection's begin, or from its last write that was
-/// taken whole.
+/// that would go past the limit of time: [`TIME_LIMIT`] in reads and writes since the connection's begin, or since its
+/// last write that was taken whole, and less than a tenth of a second more. What is done between them does not count.
 #[derive(Drop)]
 pub struct TcpConn<'a, R> {
     rt: &'a R,
     stream: TcpStream,
     peer: String,
-    since: Instant,
+    /// How long its reads and writes may still wait.
+    left: Duration,
+    /// How long the system was told to wait in a read, and in a write; 0 before the first.
+    read_wait: Duration,
+    write_wait: Duration,
     read_faults: u64,
     write_faults: u64,
 }
 
 impl<'a, R: time::Clock> TcpConn<'a, R> {
-    /// A connection over this stream, which begins now; no fault is counted.
-    pub(crate) fn new(rt: &'a R, stream: TcpStream, peer: String, since: Instant) -> Self {
+    /// A connection over this stream, which begins; no fault is counted.
+    pub(crate) fn new(rt: &'a R, stream: TcpStream, peer: String) -> Self {
         TcpConn {
             rt,
             stream,
             peer,
-            since,
+            left: Duration::from_millis(TIME_LIMIT),
+            read_wait: Duration::from_millis(0),
+            write_wait: Duration::from_millis(0),
             read_faults: 0,
             write_faults: 0,
         }
@@ -47,7 +58,10 @@ impl<R: time::Clock> Source for TcpConn<'_, R> {
     ghost writing_half = { λ c. record { bytes = None; faults = c.write_faults; peer = string_bytes c.peer } };
 
     fn read(&mut self, buf: &mut [u8]) -> Result<usize, OutFault> {
-        match read_within(&mut self.stream, buf, time_left(self.rt, &self.since)) {
+        let begun = Instant::now(self.rt);
+        let read = read_within(&mut self.stream, &mut self.read_wait, buf, self.left);
+        self.left = left_after(self.rt, begun, self.left);
+        match read {
             Some(count) => Ok(count),
             None => {
                 self.read_faults = self.read_faults.saturating_add(1);
@@ -68,10 +82,13 @@ impl<R: time::Clock> Sink for TcpConn<'_, R> {
     ghost reading_half = { λ c. record { bytes = None; faults = c.read_faults; peer = string_bytes c.peer } };
 
     fn write(&mut self, piece: &[u8]) -> Result<usize, OutFault> {
-        match write_within(&mut self.stream, piece, time_left(self.rt, &self.since)) {
+        let begun = Instant::now(self.rt);
+        let wrote = write_within(&mut self.stream, &mut self.write_wait, piece, self.left);
+        self.left = left_after(self.rt, begun, self.left);
+        match wrote {
             Some(count) => {
                 if count == piece.len() {
-                    self.since = time_now(self.rt, &self.since);
+                    self.left = Duration::from_millis(TIME_LIMIT);
                 }
                 Ok(count)
             }
@@ -92,48 +109,123 @@ impl<R: time::Clock> Conn for TcpConn<'_, R> {
         self.peer.as_str()
     }
 
+    /// Both leave in one call of the system.
+    fn write_two(&mut self, first: &[u8], second: &[u8]) -> Result<usize, OutFault> {
+        let begun = Instant::now(self.rt);
+        let wrote = write_two_within(&self.stream, &mut self.write_wait, first, second, self.left);
+        self.left = left_after(self.rt, begun, self.left);
+        match wrote {
+            Some(count) => {
+                if first.len() <= count && count - first.len() == second.len() {
+                    self.left = Duration::from_millis(TIME_LIMIT);
+                }
+                Ok(count)
+            }
+            None => {
+                self.write_faults = self.write_faults.saturating_add(1);
+                Err(OutFault::Failed)
+            }
+        }
+    }
+
     fn shows_halves(&self) {}
 }
 
-// What is left of the limit since then; none if it has passed, or the system does not tell.
-fn time_left<R: time::Clock>(rt: &R, since: &Instant) -> Option<Duration> {
-    let Ok(passed) = since.elapsed(rt) else {
-        return None;
-    };
-    let left = Duration::from_millis(TIME_LIMIT).saturating_sub(passed);
-    if left.is_zero() { None } else { Some(left) }
+// What is left of the limit after a call that began then; nothing if the clock does not tell.
+fn left_after<R: time::Clock>(rt: &R, begun: io::Result<Instant>, left: Duration) -> Duration {
+    match begun.and_then(|begun| begun.elapsed(rt)) {
+        Ok(passed) => left.saturating_sub(passed),
+        Err(_) => Duration::from_millis(0),
+    }
 }
 
-// What the clock reads, or what it read before.
-fn time_now<R: time::Clock>(rt: &R, before: &Instant) -> Instant {
-    match Instant::now(rt) {
-        Ok(now) => now,
-        Err(_) => *before,
+// How long the system is told to wait if so much is left: the next whole step.
+fn wait_for(left: Duration) -> Duration {
+    for steps in 1..STEPS {
+        let wait = Duration::from_millis(steps * STEP);
+        if left <= wait {
+            return wait;
+        }
     }
+    Duration::from_millis(TIME_LIMIT)
+}
+
+// Lets reads wait for as long as is left; none if no time is left or the system fails.
+fn let_read(stream: &TcpStream, told: &mut Duration, left: Duration) -> Option<()> {
+    if left.is_zero() {
+        return None;
+    }
+    let wait = wait_for(left);
+    if wait != *told {
+        stream.set_read_timeout(Some(wait)).ok()?;
+        *told = wait;
+    }
+    Some(())
+}
+
+// The same of writes.
+fn let_write(stream: &TcpStream, told: &mut Duration, left: Duration) -> Option<()> {
+    if left.is_zero() {
+        return None;
+    }
+    let wait = wait_for(left);
+    if wait != *told {
+        stream.set_write_timeout(Some(wait)).ok()?;
+        *told = wait;
+    }
+    Some(())
 }
 
 // Reads within the time; none if the system fails or the time passes.
-fn read_within(stream: &mut TcpStream, buf: &mut [u8], left: Option<Duration>) -> Option<usize>
+fn read_within(
+    stream: &mut TcpStream,
+    told: &mut Duration,
+    buf: &mut [u8],
+    left: Duration,
+) -> Option<usize>
     requires { 0 < length buf.old }
     ensures { IfSome result (λ n. n ≤ length buf.new) }
 {
-    let left = left?;
-    if stream.set_read_timeout(Some(left)).is_err() {
-        return None;
-    }
+    let_read(stream, told, left)?;
     stream.read(buf).ok()
 }
 
 // Writes within the time. A write that takes nothing has failed.
-fn write_within(stream: &mut TcpStream, piece: &[u8], left: Option<Duration>) -> Option<usize>
+fn write_within(
+    stream: &mut TcpStream,
+    told: &mut Duration,
+    piece: &[u8],
+    left: Duration,
+) -> Option<usize>
     ensures some { IfSome result (λ n. 0 < n) }
     ensures bound { IfSome result (λ n. n ≤ length piece.now) }
 {
-    let left = left?;
-    if stream.set_write_timeout(Some(left)).is_err() {
-        return None;
-    }
-    match stream.write(piece) {
+    let_write(stream, told, left)?;
+    taken(stream.write(piece))
+}
+
+// Writes two pieces within the time, in one call.
+fn write_two_within(
+    stream: &TcpStream,
+    told: &mut Duration,
+    first: &[u8],
+    second: &[u8],
+    left: Duration,
+) -> Option<usize>
+    ensures some { IfSome result (λ n. 0 < n) }
+    ensures bound { IfSome result (λ n. n ≤ length (first.now ++ second.now)) }
+{
+    let_write(stream, told, left)?;
+    let pieces = [IoSlice::new(first), IoSlice::new(second)];
+    taken(stream.write_vectored(&pieces))
+}
+
+// How much a write took. One that took nothing has failed.
+fn taken(wrote: io::Result<usize>) -> Option<usize>
+    ensures some { IfSome result (λ n. 0 < n) }
+    ensures is { IfSome result (λ n. wrote ≡ Ok n) }
+{
+    match wrote {
         Ok(count) if 0 < count => Some(count),
         _ => None,
     }

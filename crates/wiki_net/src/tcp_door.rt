@@ -2,10 +2,9 @@
 use crate::tcp_conn::TcpConn;
 use farm_base::{Door, OutFault};
 use std::alloc::Global;
-use std::io;
 use std::io::ErrorKind;
 use std::net::{Net, SocketAddr, TcpListener, TcpStream};
-use std::time::{self, Instant};
+use std::{io, time};
 
 // How often the system is asked for a connection before that counts as a fault.
 const TRIES: u32 = 16;
@@ -104,6 +103,5 @@ fn accept<'a, R: time::Clock>(
     let (stream, peer) = listener.accept()?;
     stream.set_nodelay(true)?;
     let peer = format!(in alloc; "{}", peer.ip())?;
-    let since = Instant::now(rt)?;
-    Ok(TcpConn::new(rt, stream, peer, since))
+    Ok(TcpConn::new(rt, stream, peer))
 }
