@@ -1,4 +1,4 @@
--- What the only worker of a round does on the cache is what the model lets a round of one worker do, in every world
+-- What the caller of a round does on the cache is what the model lets a round of one worker do, in every world
 -- with which the farm agrees. The farm's own lemmas say that a snapshot which the region takes is one of the world, and
 -- that what is rendered from it is the page of its prefix; all jobs have one moment, so a snapshot has no age.
 use Rattle.std.proofs.Common.{◌≡◌, ◌≢◌, ℕ, ◌+◌, ◌-◌, inl, inr, ◌⊎◌, Bool, true, false, List, [], ◌∷◌, map, Option, Some, None, refl, sym, ap, subst, ◌∙◌, arith}
@@ -41,8 +41,8 @@ use Rattle.farm_core.specs.Agreement.{RegionStands}
 use Rattle.farm_core.proofs.Snapping.{page_of_prefix, snapshot_is}
 use Rattle.farm_core.proofs.Storing.{answer_same}
 use Rattle.region_round.specs.declared.job.ViewJob.{ViewJob}
-use Rattle.region_round.specs.declared.do_view.ViewTerms.{ViewTerms}
-use Rattle.region_round.specs.declared.do_jobs.RoundTerms.{RoundTerms}
+use Rattle.region_round.specs.declared.prepare_view.ViewTerms.{ViewTerms}
+use Rattle.region_round.specs.declared.lent_cache.RoundTerms.{RoundTerms}
 use Rattle.region_round.specs.Alone.{Kept, LooksAlone, PutsAlone}
 use Rattle.region_round.specs.Views.{AnswersLook, DoesView, IsPutBy, Makes, PutsBy, PutsValue, Renders, Shows, ask_by}
 use Rattle.region_round.specs.Jobs.{terms_of}

@@ -28,7 +28,7 @@ use Rattle.farm_core.specs.Runs.{GoesOnBy, Stands, Steps, advanced}
 use Rattle.farm_core.proofs.Going.{agrees-read, stands-consistent}
 use Rattle.farm_core.proofs.Waiting.{moment_is, site_of}
 use Rattle.region_round.specs.declared.job.Job.{Job}
-use Rattle.region_round.specs.declared.do_jobs.RoundTerms.{RoundTerms}
+use Rattle.region_round.specs.declared.lent_cache.RoundTerms.{RoundTerms}
 use Rattle.region_round.specs.AsModel.{jobs_of}
 use Rattle.region_round.specs.Alone.{Kept}
 use Rattle.region_round.specs.Jobs.{AreProper, DoesAll, ReceivesAll, Sight, sight_of, terms_at}

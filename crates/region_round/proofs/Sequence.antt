@@ -34,7 +34,7 @@ use Rattle.farm_core.proofs.Ledgers.{message_is}
 use Rattle.region_round.specs.declared.job.Job.{Job as CodeJob}
 use Rattle.region_round.specs.declared.job.Job.TheVariants as job
 use Rattle.region_round.specs.declared.job.ViewJob.{ViewJob as CodeView}
-use Rattle.region_round.specs.declared.do_jobs.RoundTerms.{RoundTerms}
+use Rattle.region_round.specs.declared.lent_cache.RoundTerms.{RoundTerms}
 use Rattle.region_state.specs.declared.answer.Answer.{Answer as CodeAnswer}
 use Rattle.region_state.specs.AsModel.{answer_of}
 use Rattle.region_round.specs.AsModel.{answers_of, jobs_of}

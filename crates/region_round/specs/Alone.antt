@@ -1,4 +1,4 @@
--- What the only worker of a round does with the region's cache.
+-- What the caller of a round, who alone puts, does with the region's cache.
 use Rattle.std.specs.Prelude.{ℕ, ◌≡◌, ◌≢◌, ◌≤◌, List}
 use Rattle.wiki_model.specs.declared.Put.{Put}
 use Rattle.wiki_model.specs.declared.Put.TheVariants as put

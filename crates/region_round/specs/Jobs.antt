@@ -17,8 +17,8 @@ use Rattle.slot_cache.specs.AsModel.{map_of}
 use Rattle.region_round.specs.declared.job.Job.{Job}
 use Rattle.region_round.specs.declared.job.Job.TheVariants as job
 use Rattle.region_round.specs.declared.job.ViewJob.{ViewJob}
-use Rattle.region_round.specs.declared.do_view.ViewTerms.{ViewTerms}
-use Rattle.region_round.specs.declared.do_jobs.RoundTerms.{RoundTerms}
+use Rattle.region_round.specs.declared.prepare_view.ViewTerms.{ViewTerms}
+use Rattle.region_round.specs.declared.lent_cache.RoundTerms.{RoundTerms}
 use Rattle.region_round.specs.Alone.{Kept, LooksAlone, PutsAlone, TakesAlone}
 use Rattle.region_round.specs.Views.{DoesView}
 

@@ -21,4 +21,6 @@ pub record RoundsOn {K : Type 0} (content : K → Option (List Entry)) (faults :
   pub steps : Steps content faults map_of old new (round_turn at r (jobs_of jobs) answers) LeavesRequests
   -- But for the readings, the region's cache and the receipts of its purges, nothing of the farm changes.
   pub after : Kept
-  pub rest : new ≡ with_given r after (moment_of r (advanced at old).moments) (purges_of (jobs_of jobs)) (advanced at old)
+  pub rest :
+      new
+      ≡ with_given r after (moment_of r (advanced at old).moments) (purges_of (jobs_of jobs)) (advanced at old)

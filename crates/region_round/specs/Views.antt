@@ -21,7 +21,7 @@ use Rattle.region_state.specs.declared.snap_view.Snapped.{Snapped}
 use Rattle.region_state.specs.RegionState.{RegionParts}
 use Rattle.region_state.specs.SnapView.{SnapsIn}
 use Rattle.region_state.specs.StoreView.{NotesPut, replica_answer, rendered, rule_at, value_from}
-use Rattle.region_round.specs.declared.do_view.ViewTerms.{ViewTerms}
+use Rattle.region_round.specs.declared.prepare_view.ViewTerms.{ViewTerms}
 use Rattle.region_round.specs.declared.job.ViewJob.{ViewJob}
 
 -- what a view asks of a cached page

@@ -48,7 +48,7 @@ pub(crate) trait Desk<P> {
         ensures puts { puts self.now place.old place.new title.now value result };
 }
 
-/// The desk of the only worker: its place is the cache itself.
+/// The desk of the caller, who alone puts: its place is the cache itself.
 pub(crate) struct Alone;
 
 impl Desk<SlotCache<Page>> for Alone {
@@ -77,7 +77,7 @@ impl Desk<SlotCache<Page>> for Alone {
     }
 }
 
-/// The only worker gives the cache a purge.
+/// The caller gives the cache a purge.
 pub(crate) fn take_alone(cache: &mut SlotCache<Page>, title: &Title, now: Moment)
     requires ready { IsReady cache.old now }
     requires small { now ≤ greatest_moment }

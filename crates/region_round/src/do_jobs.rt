@@ -1,5 +1,5 @@
 // The jobs of a round, in their order, on the cache itself.
-ghost use Rattle.std.specs.Prelude.{◌≡◌, ◌<◌, ◌≤◌, ◌+◌, List, [], ◌∷◌, ◌++◌, length};
+ghost use Rattle.std.specs.Prelude.{◌≡◌, ◌<◌, ◌≤◌, ◌+◌, All, IfSome, List, [], ◌∷◌, ◌++◌, length};
 ghost use Rattle.wiki_model.specs.Limits.{greatest_moment};
 ghost use Rattle.farm_steps.specs.ViewSteps.{region_at};
 ghost use Rattle.region_state.specs.AsModel.{answer_of};
@@ -7,82 +7,68 @@ ghost use Rattle.region_round.specs.Alone.{IsReady, Kept};
 ghost use Rattle.region_round.specs.declared.job.Job.{Job as CodeJob};
 ghost use Rattle.region_round.specs.AsModel.{answers_of};
 ghost use Rattle.region_round.specs.Jobs.{AreProper, DoesAll, IsProper, IsPurgeAt, Receives, ReceivesAll, Views};
-ghost use Rattle.region_round.specs.Jobs.{sight_of, terms_at};
+ghost use Rattle.region_round.specs.Jobs.{sight_of, terms_of};
+ghost use Rattle.region_round.specs.Ahead.{IsAhead, IsReadyFor, ready_in};
+ghost use Rattle.region_round.specs.Prepared.{IsPrepared};
 ghost use Rattle.wiki_model.specs.Titles.{Title as ModelTitle};
 
 use crate::desk::{Alone, take_alone};
-use crate::do_view::{ViewTerms, do_view};
+use crate::do_view::do_view;
 use crate::gate::Gate;
 use crate::job::{Job, ViewJob};
-use farm_base::{Moment, Region};
+use crate::lent_cache::{LentCache, view_terms};
+use crate::look_ahead::{Place, next_place};
+use crate::prepare_view::{Prepared, ViewWork};
 use farm_core::Farm;
 use page_render::Page;
 use purge_relay::Body;
-use region_state::{Answer, PageRules};
+use region_state::Answer;
 use revision_keeper::Keeper;
 use slot_cache::SlotCache;
 use std::alloc::Global;
 use wan_cache::RegionStore;
 use wiki_titles::Title;
 
-/// What all jobs of a round go by.
-#[derive(Clone, Copy, Debug)]
-pub(crate) struct RoundTerms {
-    /// The region's moment.
-    pub at: Moment,
-    /// No page counts that was cached before this moment.
-    pub epoch: Moment,
-    pub rules: PageRules,
-}
-
-/// What the jobs of a round at this moment go by.
-pub(crate) fn terms_at<K: Keeper>(farm: &Farm<K, SlotCache<Page>>, now: Moment) -> RoundTerms
-    ensures { result ≡ terms_at now farm.now }
-{
-    let plan = farm.plan();
-    RoundTerms {
-        at: now,
-        epoch: plan.epoch,
-        rules: PageRules {
-            read_lag: plan.bounds.read_lag,
-            markup: farm.markup(),
-        },
-    }
-}
-
-/// A region's cache that was lent, with where it is from.
+/// What there is of a round's views.
 #[derive(Drop)]
-pub(crate) struct LentCache {
-    pub region: Region,
-    pub cache: SlotCache<Page>,
-    pub terms: RoundTerms,
+pub(crate) struct RoundViews {
+    /// What workers have ready for them, from the last to the first.
+    pub places: Vec<Place>,
+    /// The answers of those that are done.
+    pub answers: Vec<Answer>,
 }
 
-/// Does the jobs in their order. There is room for their answers.
+/// Does the jobs in their order. There is room for their answers. A job that no worker had passes the gate here.
 pub(crate) fn do_all<K: Keeper, G: Gate>(
     alloc: Global,
     farm: &Farm<K, SlotCache<Page>>,
     lent: &mut LentCache,
     jobs: &[Job],
     gate: &G,
-    answers: &mut Vec<Answer>,
+    views: &mut RoundViews,
 )
     requires ready { IsReady lent.old.cache lent.old.terms.at }
     requires small { lent.old.terms.at ≤ greatest_moment }
     requires proper { AreProper lent.old.region farm.now.ledger.rows jobs.now }
-    requires empty { answers.old.items ≡ [] }
-    requires room { length jobs.now ≤ answers.old.cap }
+    requires empty { views.old.answers.items ≡ [] }
+    requires room { length jobs.now ≤ views.old.answers.cap }
+    requires ahead { All (IsAhead (region_at lent.old.region farm.now.home farm.now.west) lent.old.terms jobs.now)
+        views.old.places.items }
     ensures ready { IsReady lent.new.cache lent.old.terms.at }
     ensures region { lent.new.region ≡ lent.old.region }
     ensures terms { lent.new.terms ≡ lent.old.terms }
     ensures does { DoesAll lent.old.region (sight_of lent.old.region farm.now) lent.old.terms jobs.now
-        (answers_of answers.new.items) lent.old.cache lent.new.cache }
+        (answers_of views.new.answers.items) lent.old.cache lent.new.cache }
 {
     let mut number: usize = 0;
     for job in jobs.iter() {
-        gate.pass(number);
+        let place = next_place(&mut views.places, number);
+        if place.is_none() {
+            gate.pass(number);
+        }
         number += 1;
-        do_one(alloc, farm, lent, job, answers);
+        let ready = ready_of(place);
+        do_one(alloc, farm, lent, job, ready, &mut views.answers);
     }
 }
 
@@ -93,12 +79,15 @@ fn do_one<K: Keeper>(
     farm: &Farm<K, SlotCache<Page>>,
     lent: &mut LentCache,
     job: &Job,
+    ready: Option<Prepared>,
     answers: &mut Vec<Answer>,
 )
     requires ready { IsReady lent.old.cache lent.old.terms.at }
     requires small { lent.old.terms.at ≤ greatest_moment }
     requires proper { IsProper lent.old.region farm.now.ledger.rows job.now }
     requires room { length answers.old.items < answers.old.cap }
+    requires ahead { IfSome ready (IsReadyFor (region_at lent.old.region farm.now.home farm.now.west) lent.old.terms
+        job.now) }
     ensures ready { IsReady lent.new.cache lent.old.terms.at }
     ensures region { lent.new.region ≡ lent.old.region }
     ensures terms { lent.new.terms ≡ lent.old.terms }
@@ -112,7 +101,7 @@ fn do_one<K: Keeper>(
 {
     match job {
         Job::View(view) => {
-            let answer = view_alone(alloc, farm, lent, view);
+            let answer = view_alone(alloc, farm, lent, view, ready);
             push_answer(answers, answer);
         }
         Job::Receipt(purge) => receive(farm, lent, *purge),
@@ -138,9 +127,12 @@ fn view_alone<K: Keeper>(
     farm: &Farm<K, SlotCache<Page>>,
     lent: &mut LentCache,
     view: &ViewJob,
+    ready: Option<Prepared>,
 ) -> Answer
     requires ready { IsReady lent.old.cache lent.old.terms.at }
     requires small { lent.old.terms.at ≤ greatest_moment }
+    requires ahead { IfSome ready (λ prepared. IsPrepared (region_at lent.old.region farm.now.home farm.now.west)
+        view.now (terms_of lent.old.terms prepared.snapped.pending) prepared) }
     ensures ready { IsReady lent.new.cache lent.old.terms.at }
     ensures region { lent.new.region ≡ lent.old.region }
     ensures terms { lent.new.terms ≡ lent.old.terms }
@@ -148,16 +140,22 @@ fn view_alone<K: Keeper>(
         lent.new.cache (answer_of result) }
 {
     let pending = farm.pending(lent.region, &view.title);
-    let terms = ViewTerms {
-        at: lent.terms.at,
-        epoch: lent.terms.epoch,
-        rules: lent.terms.rules,
-        pending,
-    };
+    let terms = view_terms(lent.terms, pending);
     let region = farm.region(lent.region);
-    let answer = do_view(alloc, &Alone, &mut lent.cache, region, view, &terms);
+    let work = ViewWork { terms, ready };
+    let answer = do_view(alloc, &Alone, &mut lent.cache, region, view, work);
     lent.cache.known();
     answer
+}
+
+/// What a place has ready.
+fn ready_of(place: Option<Place>) -> Option<Prepared>
+    ensures { result ≡ ready_in place }
+{
+    match place {
+        Some(place) => place.ready,
+        None => None,
+    }
 }
 
 /// Gives the cache the purge of this number.

@@ -1,5 +1,5 @@
 // A view job: a page of the cache, or one that is rendered and put there.
-ghost use Rattle.std.specs.Prelude.{◌≡◌, ◌≤◌, Some};
+ghost use Rattle.std.specs.Prelude.{◌≡◌, ◌≤◌, Some, IfSome};
 ghost use Rattle.std.specs.Arc.{arc_value};
 ghost use Rattle.wiki_model.specs.Answers as model;
 ghost use Rattle.wiki_model.specs.CacheCalls.{answer_from as answer_of_value};
@@ -9,60 +9,50 @@ ghost use Rattle.wan_value.specs.declared.Value.{Value as CodeValue};
 ghost use Rattle.wiki_model.specs.Bytes.{Bytes};
 ghost use Rattle.region_state.specs.AsModel.{answer_of};
 ghost use Rattle.region_state.specs.StoreView.{rendered as page_of, rule_at};
+ghost use Rattle.region_round.specs.Prepared.{IsMade, IsPreparedFor};
 ghost use Rattle.region_round.specs.Views.{AnswersLook, DoesView, IsPutBy, Makes, MayPut, PutsBy, Renders, Shows};
 
 use crate::desk::Desk;
 use crate::job::ViewJob;
-use farm_base::Moment;
+use crate::prepare_view::{Prepared, ViewTerms, ViewWork, ask_of, prepared_or_made};
 use page_render::Page;
 use region_state::{
-    Answer, MadePage, Origin, PageAnswer, PageRules, PutNote, RegionState, SnapTerms, Snapped,
-    answer_from, note_of, rendered, rule_for, value_of,
+    Answer, MadePage, Origin, PageAnswer, PutNote, RegionState, answer_from, note_of, rule_for,
+    value_of,
 };
 use replica_apply::Snapshot;
 use std::alloc::Global;
-use wan_cache::{Ask, Look, RegionStore, Value};
+use wan_cache::{Look, RegionStore, Value};
 use wan_value::{LIFE_LAGGED, LIFE_WHOLE, SetRule};
 use wiki_titles::Title;
 
-/// What a view goes by, beside its job.
-#[derive(Clone, Copy, Debug)]
-pub(crate) struct ViewTerms {
-    /// The round's moment at its region.
-    pub at: Moment,
-    /// No page counts that was cached before this moment.
-    pub epoch: Moment,
-    pub rules: PageRules,
-    /// Whether an edit of the title is begun.
-    pub pending: bool,
-}
-
-/// Does a view at a desk.
+/// Does a view at a desk. What was prepared for it counts if the desk misses.
 pub(crate) fn do_view<P, D: Desk<P>, S: RegionStore<Page>>(
     alloc: Global,
     desk: &D,
     place: &mut P,
     region: &RegionState<S>,
     view: &ViewJob,
-    terms: &ViewTerms,
+    work: ViewWork,
 ) -> Answer
-    requires ready { D.ready desk.now place.old terms.now.at }
-    requires small { terms.now.at ≤ greatest_moment }
-    requires accepts { (value : CodeValue Bytes) → MayPut region.now view.now terms.now value
+    requires ready { D.ready desk.now place.old work.terms.at }
+    requires small { work.terms.at ≤ greatest_moment }
+    requires prepared { IfSome work.ready (IsPreparedFor region.now view.now work.terms) }
+    requires accepts { (value : CodeValue Bytes) → MayPut region.now view.now work.terms value
         → D.accepts desk.now view.now.title value }
-    ensures ready { D.ready desk.now place.new terms.now.at }
-    ensures does { DoesView (D.looks desk.now) (D.puts desk.now) region.now view.now terms.now place.old place.new
+    ensures ready { D.ready desk.now place.new work.terms.at }
+    ensures does { DoesView (D.looks desk.now) (D.puts desk.now) region.now view.now work.terms place.old place.new
         (answer_of result) }
 {
-    let ask = Ask {
-        epoch: terms.epoch,
-        version: terms.rules.markup,
-        need: view.need,
-    };
+    let ViewWork { terms, ready } = work;
+    let ask = ask_of(view, &terms);
     match desk.look(place, &view.title, terms.at, &ask) {
         Look::Hit(value) => from_cache(&view.title, Origin::Hit, value),
         Look::Interim(value) => from_cache(&view.title, Origin::Interim, value),
-        Look::Miss(_) => make_view(alloc, desk, place, region, view, terms),
+        Look::Miss(_) => {
+            let work = ViewWork { terms, ready };
+            make_view(alloc, desk, place, region, view, work)
+        }
         Look::Memory => Answer::Memory,
     }
 }
@@ -91,61 +81,57 @@ fn make_view<P, D: Desk<P>, S: RegionStore<Page>>(
     place: &mut P,
     region: &RegionState<S>,
     view: &ViewJob,
-    terms: &ViewTerms,
+    work: ViewWork,
 ) -> Answer
-    requires ready { D.ready desk.now place.old terms.now.at }
-    requires small { terms.now.at ≤ greatest_moment }
-    requires accepts { (value : CodeValue Bytes) → MayPut region.now view.now terms.now value
+    requires ready { D.ready desk.now place.old work.terms.at }
+    requires small { work.terms.at ≤ greatest_moment }
+    requires prepared { IfSome work.ready (IsPreparedFor region.now view.now work.terms) }
+    requires accepts { (value : CodeValue Bytes) → MayPut region.now view.now work.terms value
         → D.accepts desk.now view.now.title value }
-    ensures ready { D.ready desk.now place.new terms.now.at }
-    ensures makes { Makes (D.puts desk.now) region.now place.old place.new view.now terms.now (answer_of result) }
+    ensures ready { D.ready desk.now place.new work.terms.at }
+    ensures makes { Makes (D.puts desk.now) region.now place.old place.new view.now work.terms (answer_of result) }
 {
-    let snap = SnapTerms {
-        need: view.need,
-        word: view.word,
-        pending: terms.pending,
-    };
-    let Ok(snapped) = region.snap(alloc, &view.title, snap, terms.at) else {
+    let ViewWork { terms, ready } = work;
+    let Ok(prepared) = prepared_or_made(alloc, region, view, &terms, ready) else {
         return Answer::Memory;
     };
-    render_at(alloc, desk, place, &view.title, &snapped, terms)
+    put_prepared(desk, place, &view.title, prepared, &terms)
 }
 
-/// Renders the page of a snapshot, puts it by the rule, and answers it.
-fn render_at<P, D: Desk<P>>(
-    alloc: Global,
+/// Puts the page of a snapshot by the rule, and answers it.
+fn put_prepared<P, D: Desk<P>>(
     desk: &D,
     place: &mut P,
     title: &Title,
-    snapped: &Snapped,
+    prepared: Prepared,
     terms: &ViewTerms,
 ) -> Answer
     requires ready { D.ready desk.now place.old terms.now.at }
     requires small { terms.now.at ≤ greatest_moment }
-    requires accepts { (text : Bytes) (value : CodeValue Bytes) → snapped.now.snapshot.page ≡ Some text
-        → IsPutBy (rule_at snapped.now terms.now.at terms.now.rules.read_lag) snapped.now.snapshot
-        (page_of terms.now.rules.markup title.now text snapped.now.snapshot) terms.now.at terms.now.rules.markup value
+    requires made { IsMade terms.now.rules.markup title.now prepared.snapped.snapshot prepared.pages }
+    requires accepts { (text : Bytes) (value : CodeValue Bytes) → prepared.snapped.snapshot.page ≡ Some text
+        → IsPutBy (rule_at prepared.snapped terms.now.at terms.now.rules.read_lag) prepared.snapped.snapshot
+        (page_of terms.now.rules.markup title.now text prepared.snapped.snapshot) terms.now.at
+        terms.now.rules.markup value
         → D.accepts desk.now title.now value }
     ensures ready { D.ready desk.now place.new terms.now.at }
-    ensures renders { Renders (D.puts desk.now) place.old place.new title.now snapped.now terms.now (answer_of result) }
+    ensures renders { Renders (D.puts desk.now) place.old place.new title.now prepared.snapped terms.now
+        (answer_of result) }
 {
-    let Some(text) = &snapped.snapshot.page else {
+    let Prepared { snapped, pages } = prepared;
+    let Some(pages) = pages else {
         return Answer::NoPage {
             source: snapped.snapshot.upto,
         };
     };
-    let pages = rendered(alloc, title, text, &snapped.snapshot, terms.rules.markup);
-    let Ok((name, page, shared)) = pages else {
-        return Answer::Memory;
-    };
-    let rule = rule_for(snapped, terms.at, terms.rules.read_lag);
+    let rule = rule_for(&snapped, terms.at, terms.rules.read_lag);
     let made = MadePage {
-        page: shared,
+        page: pages.shared,
         at: terms.at,
         markup: terms.rules.markup,
     };
     let note = put_by(rule, desk, place, title, &snapped.snapshot, made);
-    answer_from(name, snapped, note, page)
+    answer_from(pages.name, &snapped, note, pages.page)
 }
 
 /// Puts the page by the rule, and tells what became of it.
@@ -163,8 +149,8 @@ fn put_by<P, D: Desk<P>>(
         → IsPutBy rule snapshot.now (arc_value made.page) made.at made.markup value
         → D.accepts desk.now title.now value }
     ensures ready { D.ready desk.now place.new made.at }
-    ensures puts { PutsBy (D.puts desk.now) rule place.old place.new title.now snapshot.now (arc_value made.page) made.at
-        made.markup result }
+    ensures puts { PutsBy (D.puts desk.now) rule place.old place.new title.now snapshot.now (arc_value made.page)
+        made.at made.markup result }
 {
     match rule {
         SetRule::Whole => {

@@ -3,10 +3,12 @@
 //!
 //! A page that nobody keeps costs a hundred times one that the cache has, so whoever asks for many at once wants them
 //! rendered side by side, and yet on one cache, which must lose no purge. (1) The farm *lends* the region's cache:
-//! until it is back no step may be made, so all jobs of a round see one history and one moment. (2) A view job looks
-//! into the cache; if it misses, it takes a snapshot from a replica, renders it, puts it by the rule and answers it. A
-//! receipt job gives the cache a purge. (3) The cache goes back to the farm together with the receipts, and the farm
-//! stands for the longer run: a round is one step.
+//! until it is back no step may be made, so all jobs of a round see one history and one moment. (2) If the plan has
+//! several workers they look all views up in the cache as it was lent, and prepare those that miss: a snapshot of a
+//! replica, and its page. Nothing is put yet. (3) The caller does the jobs in their order: a receipt gives the cache a
+//! purge, and a view looks into the cache; if it misses, what was prepared for it is put by the rule and answered, or
+//! is prepared now. So several workers answer as one does, only sooner. (4) The cache goes back to the farm together
+//! with the receipts, and the farm stands for the longer run: a round is one step.
 //!
 //! How a cache is looked into and what may be put stands behind [`desk::Desk`], once for the cache itself.
 //!
@@ -25,6 +27,9 @@ mod do_jobs;
 mod do_view;
 mod gate;
 mod job;
+mod lent_cache;
+mod look_ahead;
+mod prepare_view;
 mod proper_jobs;
 mod run_round;
 

@@ -9,9 +9,11 @@ ghost use Rattle.region_round.specs.AsModel.{answers_of, jobs_of};
 ghost use Rattle.region_round.specs.Jobs.{AreProper, DoesAll, ReceivesAll, sight_of};
 ghost use Rattle.region_round.specs.Rounds.{RoundsOn};
 
-use crate::do_jobs::{LentCache, do_all, receive_all, terms_at};
+use crate::do_jobs::{RoundViews, do_all, receive_all};
 use crate::gate::Gate;
 use crate::job::Job;
+use crate::lent_cache::{LentCache, terms_at};
+use crate::look_ahead::look_ahead;
 use arrayvec::ArrayVec;
 use farm_base::{Memory, Readings, Region};
 use farm_core::{Farm, Lent};
@@ -38,6 +40,9 @@ pub struct RoundAsk {
 /// Does the jobs of a round on the region's cache, and answers its views in their order. All jobs have the region's one
 /// moment. An answer is a page, that there is no page, or out of memory.
 ///
+/// If the plan has several workers the pages that the cache lacks are rendered side by side, each thread's for
+/// neighbouring views; the caller has those for which no thread can be started. The answers are those of one worker.
+///
 /// If there is no memory for the list of answers no view is done, and all receipts are given all the same. The region's
 /// cache is there. Each receipt is west's, of a purge that was issued and not dropped.
 pub fn round<K: Keeper, R: Threads + Sync, G: Gate>(
@@ -50,11 +55,10 @@ pub fn round<K: Keeper, R: Threads + Sync, G: Gate>(
     requires few { length ask.jobs.items ≤ jobs_max }
     requires proper { AreProper ask.region farm.old.ledger.rows ask.jobs.items }
     requires there { IsSome (region_at ask.region farm.old.home farm.old.west).cache }
-    ensures done { IfOk result (λ answers. RoundsOn K.content K.faults farm.old farm.new ask.at ask.region ask.jobs.items
-        (Some (answers_of answers.items))) }
+    ensures done { IfOk result (λ answers. RoundsOn K.content K.faults farm.old farm.new ask.at ask.region
+        ask.jobs.items (Some (answers_of answers.items))) }
     ensures lost { OnErr result (RoundsOn K.content K.faults farm.old farm.new ask.at ask.region ask.jobs.items None) }
 {
-    let _ = rt;
     let RoundAsk { region, jobs, at } = ask;
     let purges = purges_in(&jobs);
     let Lent { cache, now } = farm.lend(region, at);
@@ -64,7 +68,7 @@ pub fn round<K: Keeper, R: Threads + Sync, G: Gate>(
         cache,
         terms,
     };
-    let answers = do_round(alloc, farm, &mut lent, &jobs, gate);
+    let answers = do_round(rt, alloc, farm, &mut lent, &jobs, gate);
     let back = Lent {
         cache: lent.cache,
         now,
@@ -101,7 +105,8 @@ fn push_purge(purges: &mut ArrayVec<u64, JOBS_MAX>, job: &Job)
 }
 
 /// Does the jobs on the cache that was lent.
-fn do_round<K: Keeper, G: Gate>(
+fn do_round<K: Keeper, R: Threads + Sync, G: Gate>(
+    rt: &R,
     alloc: Global,
     farm: &Farm<K, SlotCache<Page>>,
     lent: &mut LentCache,
@@ -119,10 +124,13 @@ fn do_round<K: Keeper, G: Gate>(
     ensures lost { OnErr result (ReceivesAll farm.now.ledger.rows lent.old.terms.at jobs.now lent.old.cache
         lent.new.cache) }
 {
-    let Ok(mut answers) = Vec::with_capacity(alloc, jobs.len()) else {
+    let Ok(answers) = Vec::with_capacity(alloc, jobs.len()) else {
         receive_all(farm, lent, jobs);
         return Err(Memory);
     };
-    do_all(alloc, farm, lent, jobs, gate, &mut answers);
+    let places = look_ahead(rt, alloc, farm, lent, jobs, gate);
+    let mut views = RoundViews { places, answers };
+    do_all(alloc, farm, lent, jobs, gate, &mut views);
+    let RoundViews { answers, .. } = views;
     Ok(answers)
 }

@@ -1,16 +1,37 @@
 // What a round leaves in the cache for later rounds.
-use crate::setting::{farm_of_three, jobs_of, lines_of, west_round};
+use crate::setting::{farm_of_three, heads_of, jobs_of, lines_of, west_round};
+use farm_core::{Farm, Page};
 use region_round::OpenGate;
+use revision_keeper::Keeper;
+use slot_cache::SlotCache;
+use std::alloc::Global;
+use std::process::Abort;
 use std::test::Fail;
+use std::thread::Threads;
 
 #[test]
 fn a_page_that_a_round_kept_is_a_hit_of_the_next(rt: HostRuntime) -> Result<(), Fail> {
     let alloc = rt.alloc();
     let mut farm = farm_of_three(alloc, 1)?;
+    hits(&rt, alloc, &mut farm)
+}
+
+#[test]
+fn several_workers_share_the_hits_of_an_earlier_round(rt: HostRuntime) -> Result<(), Fail> {
+    let alloc = rt.alloc();
+    let mut farm = farm_of_three(alloc, 2)?;
+    hits(&rt, alloc, &mut farm)
+}
+
+fn hits<K: Keeper, R: Threads + Sync + Abort>(
+    rt: &R,
+    alloc: Global,
+    farm: &mut Farm<K, SlotCache<Page>>,
+) -> Result<(), Fail> {
     let first = jobs_of(alloc, &["A"])?;
-    west_round(&rt, alloc, &mut farm, first, 21_000, &OpenGate)?;
+    west_round(rt, alloc, farm, first, 21_000, &OpenGate)?;
     let second = jobs_of(alloc, &["A", "B"])?;
-    let answers = west_round(&rt, alloc, &mut farm, second, 22_000, &OpenGate)?;
+    let answers = west_round(rt, alloc, farm, second, 22_000, &OpenGate)?;
     assert_eq!(rt;
         lines_of(alloc, answers.as_slice())?.as_str(),
         "\
@@ -34,32 +55,28 @@ fn a_receipt_of_a_round_holds_its_title_off_for_eleven_seconds(
     rt: HostRuntime,
 ) -> Result<(), Fail> {
     let alloc = rt.alloc();
-    let mut farm = farm_of_three(alloc, 1)?;
+    let mut farm = farm_of_three(alloc, 2)?;
+    holds_off(&rt, alloc, &mut farm)
+}
+
+fn holds_off<K: Keeper, R: Threads + Sync + Abort>(
+    rt: &R,
+    alloc: Global,
+    farm: &mut Farm<K, SlotCache<Page>>,
+) -> Result<(), Fail> {
     let first = jobs_of(alloc, &["1"])?;
-    west_round(&rt, alloc, &mut farm, first, 21_000, &OpenGate)?;
+    west_round(rt, alloc, farm, first, 21_000, &OpenGate)?;
     let held = jobs_of(alloc, &["A"])?;
-    let answers = west_round(&rt, alloc, &mut farm, held, 31_999, &OpenGate)?;
+    let answers = west_round(rt, alloc, farm, held, 31_999, &OpenGate)?;
     assert_eq!(rt;
-        lines_of(alloc, answers.as_slice())?.as_str(),
-        "\
-1 ok source=3 from=replica:0 put=held lagged=1 bytes=55
-<!DOCTYPE html>
-<title>A</title>
-<h1>A</h1>
-<p>one</p>
-"
+        heads_of(alloc, answers.as_slice())?.as_str(),
+        "A 1 ok source=3 from=replica:0 put=held lagged=1 bytes=55\n"
     );
     let free = jobs_of(alloc, &["A"])?;
-    let answers = west_round(&rt, alloc, &mut farm, free, 32_000, &OpenGate)?;
+    let answers = west_round(rt, alloc, farm, free, 32_000, &OpenGate)?;
     assert_eq!(rt;
-        lines_of(alloc, answers.as_slice())?.as_str(),
-        "\
-1 ok source=3 from=replica:0 put=lagged lagged=1 bytes=55
-<!DOCTYPE html>
-<title>A</title>
-<h1>A</h1>
-<p>one</p>
-"
+        heads_of(alloc, answers.as_slice())?.as_str(),
+        "A 1 ok source=3 from=replica:0 put=lagged lagged=1 bytes=55\n"
     );
     Ok(())
 }

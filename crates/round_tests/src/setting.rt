@@ -1,5 +1,5 @@
 // A farm whose west has applied three edits, jobs, and a round whose conditions are looked at first.
-use drill_script::{Script, read_script, report_line};
+use drill_script::{Script, read_script, report_head, report_line};
 use edit_core::EditAsk;
 use farm_base::{BOUND_MAX, Moment, Readings, Region};
 use farm_core::{Answer, Asked, Farm, Page};
@@ -11,6 +11,7 @@ use std::alloc::Global;
 use std::str;
 use std::test::Fail;
 use std::thread::Threads;
+use wan_cache::RegionStore;
 use wiki_titles::{ClientId, Text, Title, Token};
 
 /// The farm of these tests.
@@ -62,7 +63,10 @@ pub fn farm_of_three(alloc: Global, workers: u8) -> Result<TestFarm, Fail> {
     Ok(farm)
 }
 
-fn save_three<K: Keeper>(alloc: Global, farm: &mut Farm<K, SlotCache<Page>>) -> Result<(), Fail> {
+fn save_three<K: Keeper, S: RegionStore<Page>>(
+    alloc: Global,
+    farm: &mut Farm<K, S>,
+) -> Result<(), Fail> {
     save(alloc, farm, "A", "one")?;
     save(alloc, farm, "B", "two")?;
     save(alloc, farm, "C", "six")?;
@@ -70,9 +74,9 @@ fn save_three<K: Keeper>(alloc: Global, farm: &mut Farm<K, SlotCache<Page>>) -> 
 }
 
 /// Saves the first text of a page at 20,000. Its title is its token.
-fn save<K: Keeper>(
+fn save<K: Keeper, S: RegionStore<Page>>(
     alloc: Global,
-    farm: &mut Farm<K, SlotCache<Page>>,
+    farm: &mut Farm<K, S>,
     title: &str,
     text: &str,
 ) -> Result<(), Fail> {
@@ -92,7 +96,7 @@ fn save<K: Keeper>(
     commit(farm)
 }
 
-fn commit<K: Keeper>(farm: &mut Farm<K, SlotCache<Page>>) -> Result<(), Fail> {
+fn commit<K: Keeper, S: RegionStore<Page>>(farm: &mut Farm<K, S>) -> Result<(), Fail> {
     if !farm.is_whole() {
         return Err(not_ready());
     }
@@ -109,7 +113,7 @@ fn commit<K: Keeper>(farm: &mut Farm<K, SlotCache<Page>>) -> Result<(), Fail> {
 }
 
 /// Applies entries to west's replica, and takes none of their messages.
-pub fn apply<K: Keeper>(farm: &mut Farm<K, SlotCache<Page>>, count: u32) -> Result<(), Fail> {
+fn apply<K: Keeper, S: RegionStore<Page>>(farm: &mut Farm<K, S>, count: u32) -> Result<(), Fail> {
     if 0 == farm.replicas(Region::West) {
         return Err(not_ready());
     }
@@ -174,4 +178,25 @@ pub fn lines_of(alloc: Global, answers: &[Answer]) -> Result<String, Fail> {
         lines.extend_from_slice(report_line(alloc, number, answer, false)?.as_slice())?;
     }
     Ok(String::from_str(alloc, str::from_utf8(lines.as_slice())?)?)
+}
+
+/// The same without the pages, with the title of each in front.
+pub fn heads_of(alloc: Global, answers: &[Answer]) -> Result<String, Fail> {
+    let mut heads = String::new(alloc);
+    let mut number = 0u64;
+    for answer in answers.iter() {
+        number = number.wrapping_add(1);
+        push_head(alloc, &mut heads, number, answer)?;
+    }
+    Ok(heads)
+}
+
+fn push_head(alloc: Global, heads: &mut String, number: u64, answer: &Answer) -> Result<(), Fail> {
+    if let Answer::Ok(page) = answer {
+        heads.push_str(page.title.text())?;
+        heads.push_str(" ")?;
+    }
+    let head = report_head(alloc, number, answer, false)?;
+    heads.push_str(str::from_utf8(head.as_slice())?)?;
+    Ok(())
 }
