@@ -21,7 +21,7 @@ fn no_more_connections_are_taken_than_are_wanted(rt: HostRuntime) -> Result<(), 
     let mut door = door_of(alloc, NO_ROUTE, NO_ROUTE, 0)?;
     let mut clock = always(alloc, 5_000);
     let host = host_of(alloc, MemKeeper::new(alloc), "", 1)?;
-    let hosted = host_on(alloc, host, &mut door, &mut clock);
+    let hosted = host_on(&rt, alloc, host, &mut door, &mut clock);
     assert_eq!(rt; hosted.end, HostEnd::Served { connections: 1 });
     let text = said(alloc, &door, 0)?;
     assert_eq!(rt; text.as_str(), REFUSED);
@@ -35,7 +35,7 @@ fn a_door_that_has_no_more_ends_the_hosting(rt: HostRuntime) -> Result<(), Fail>
     let mut door = door_of(alloc, NO_ROUTE, NO_ROUTE, 0)?;
     let mut clock = always(alloc, 5_000);
     let host = host_of(alloc, MemKeeper::new(alloc), "", 1_000_000)?;
-    let hosted = host_on(alloc, host, &mut door, &mut clock);
+    let hosted = host_on(&rt, alloc, host, &mut door, &mut clock);
     assert_eq!(rt; hosted.end, HostEnd::Served { connections: 2 });
     assert!(rt; door.returned(1).is_some());
     Ok(())
@@ -47,7 +47,7 @@ fn a_door_that_fails_ends_the_hosting(rt: HostRuntime) -> Result<(), Fail> {
     let mut door = door_of(alloc, NO_ROUTE, NO_ROUTE, 2)?;
     let mut clock = always(alloc, 5_000);
     let host = host_of(alloc, MemKeeper::new(alloc), "", 2)?;
-    let hosted = host_on(alloc, host, &mut door, &mut clock);
+    let hosted = host_on(&rt, alloc, host, &mut door, &mut clock);
     assert_eq!(rt; hosted.end, HostEnd::DoorFault);
     let text = said(alloc, &door, 0)?;
     assert_eq!(rt; text.as_str(), REFUSED);
@@ -61,7 +61,7 @@ fn a_connection_that_is_cut_is_handed_back(rt: HostRuntime) -> Result<(), Fail> 
     let mut door = door_of(alloc, "GET / HTTP/1.1\r\nHost:", NO_ROUTE, 0)?;
     let mut clock = always(alloc, 5_000);
     let host = host_of(alloc, MemKeeper::new(alloc), "", 2)?;
-    let hosted = host_on(alloc, host, &mut door, &mut clock);
+    let hosted = host_on(&rt, alloc, host, &mut door, &mut clock);
     assert_eq!(rt; hosted.end, HostEnd::Served { connections: 2 });
     let first = said(alloc, &door, 0)?;
     assert_eq!(rt; first.as_str(), "");
@@ -76,7 +76,7 @@ fn no_connection_need_be_wanted(rt: HostRuntime) -> Result<(), Fail> {
     let mut door = door_of(alloc, NO_ROUTE, NO_ROUTE, 1)?;
     let mut clock = always(alloc, 5_000);
     let host = host_of(alloc, MemKeeper::new(alloc), "", 0)?;
-    let hosted = host_on(alloc, host, &mut door, &mut clock);
+    let hosted = host_on(&rt, alloc, host, &mut door, &mut clock);
     assert_eq!(rt; hosted.end, HostEnd::Served { connections: 0 });
     Ok(())
 }

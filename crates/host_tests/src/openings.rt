@@ -26,20 +26,20 @@ skew = 500
 
 #[test]
 fn a_layout_says_replicas_slots_workers_and_bounds(rt: HostRuntime) -> Result<(), Fail> {
-    let end = end_by_layout(rt.alloc(), WHOLE)?;
+    let end = end_by_layout(&rt, rt.alloc(), WHOLE)?;
     assert_eq!(rt; end, HostEnd::Served { connections: 2 });
     Ok(())
 }
 
 #[test]
 fn a_layout_is_refused_by_the_first_rule_that_it_breaks(rt: HostRuntime) -> Result<(), Fail> {
-    let end = end_by_layout(rt.alloc(), "[home\n")?;
+    let end = end_by_layout(&rt, rt.alloc(), "[home\n")?;
     assert_eq!(rt; end, HostEnd::BadLayout { rule: 1 });
-    let end = end_by_layout(rt.alloc(), "[east]\nslots = 1\n")?;
+    let end = end_by_layout(&rt, rt.alloc(), "[east]\nslots = 1\n")?;
     assert_eq!(rt; end, HostEnd::BadLayout { rule: 2 });
-    let end = end_by_layout(rt.alloc(), "[home]\nslots = \"1\"\n")?;
+    let end = end_by_layout(&rt, rt.alloc(), "[home]\nslots = \"1\"\n")?;
     assert_eq!(rt; end, HostEnd::BadLayout { rule: 3 });
-    let end = end_by_layout(rt.alloc(), "[home]\nslots = 1\n")?;
+    let end = end_by_layout(&rt, rt.alloc(), "[home]\nslots = 1\n")?;
     assert_eq!(rt; end, HostEnd::BadLayout { rule: 4 });
     Ok(())
 }
@@ -52,7 +52,7 @@ fn a_refused_layout_reads_no_clock_and_takes_no_connection(rt: HostRuntime) -> R
     coming.push(both(7))?;
     let mut clock = MemClock::new(coming, both(9));
     let host = host_of(alloc, MemKeeper::new(alloc), "[home]\nslots = 1\n", 2)?;
-    let hosted = host_on(alloc, host, &mut door, &mut clock);
+    let hosted = host_on(&rt, alloc, host, &mut door, &mut clock);
     assert_eq!(rt; hosted.end, HostEnd::BadLayout { rule: 4 });
     assert_eq!(rt; clock.readings().home.0, 7);
     assert!(rt; door.returned(0).is_none());
@@ -74,10 +74,10 @@ fn a_second_hosting_goes_on_with_the_history(rt: HostRuntime) -> Result<(), Fail
     let mut door = door_of(alloc, SAVING, "", 0)?;
     let mut clock = always(alloc, 5_000);
     let host = host_of(alloc, MemKeeper::new(alloc), "", 1)?;
-    let Hosted { keeper, .. } = host_on(alloc, host, &mut door, &mut clock);
+    let Hosted { keeper, .. } = host_on(&rt, alloc, host, &mut door, &mut clock);
     let mut door = door_of(alloc, READING, "", 0)?;
     let host = host_of(alloc, keeper, WHOLE, 1)?;
-    let hosted = host_on(alloc, host, &mut door, &mut clock);
+    let hosted = host_on(&rt, alloc, host, &mut door, &mut clock);
     assert_eq!(rt; hosted.end, HostEnd::Served { connections: 1 });
     let text = said(alloc, &door, 0)?;
     assert!(rt; text.as_str().ends_with("<h1>A</h1>\n<p>one</p>\n"));
@@ -93,7 +93,7 @@ fn a_keeper_that_fails_at_its_start_opens_nothing(rt: HostRuntime) -> Result<(),
     let mut clock = always(alloc, 5_000);
     // The layout is a faulty one, and is not read.
     let host = host_of(alloc, FailingKeeper::new(alloc, starts), "[home", 1)?;
-    let Hosted { keeper, end } = host_on(alloc, host, &mut door, &mut clock);
+    let Hosted { keeper, end } = host_on(&rt, alloc, host, &mut door, &mut clock);
     assert_eq!(rt; end, HostEnd::StoreFault);
     assert!(rt; door.returned(0).is_none());
     let mut keeper = keeper;

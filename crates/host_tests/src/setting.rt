@@ -5,6 +5,7 @@ use revision_keeper::{Keeper, MemKeeper};
 use std::alloc::Global;
 use std::str;
 use std::test::Fail;
+use std::thread::Threads;
 use wiki_host::{Host, HostEnd, Hosted, serve_door};
 
 /// Both clocks read this.
@@ -55,7 +56,8 @@ pub fn host_of<K: Keeper + Drop>(
 }
 
 /// Hosts it on the door, with a wire of its own and words that are 0.
-pub fn host_on<K: Keeper + Drop>(
+pub fn host_on<R: Threads + Sync, K: Keeper + Drop>(
+    rt: &R,
     alloc: Global,
     host: Host<K>,
     door: &mut MemDoor,
@@ -63,15 +65,19 @@ pub fn host_on<K: Keeper + Drop>(
 ) -> Hosted<K> {
     let mut lots = MemLots::new(Vec::new(alloc), 0);
     let mut wire = FarmWire::new(alloc);
-    serve_door(alloc, host, door, clock, &mut lots, &mut wire)
+    serve_door(rt, alloc, host, door, clock, &mut lots, &mut wire)
 }
 
 /// How a hosting by this layout ended, over an empty history at 5,000, with two connections that ask for nothing.
-pub fn end_by_layout(alloc: Global, layout: &str) -> Result<HostEnd, Fail> {
+pub fn end_by_layout<R: Threads + Sync>(
+    rt: &R,
+    alloc: Global,
+    layout: &str,
+) -> Result<HostEnd, Fail> {
     let mut door = door_of(alloc, "", "", 0)?;
     let mut clock = always(alloc, 5_000);
     let host = host_of(alloc, MemKeeper::new(alloc), layout, 2)?;
-    let Hosted { end, .. } = host_on(alloc, host, &mut door, &mut clock);
+    let Hosted { end, .. } = host_on(rt, alloc, host, &mut door, &mut clock);
     Ok(end)
 }
 

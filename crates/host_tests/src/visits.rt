@@ -69,7 +69,7 @@ fn an_edit_is_saved_and_its_page_is_seen(rt: HostRuntime) -> Result<(), Fail> {
     let mut door = door_of(alloc, &input, "", 0)?;
     let mut clock = always(alloc, 5_000);
     let host = host_of(alloc, MemKeeper::new(alloc), "", 1)?;
-    let hosted = host_on(alloc, host, &mut door, &mut clock);
+    let hosted = host_on(&rt, alloc, host, &mut door, &mut clock);
     assert_eq!(rt; hosted.end, HostEnd::Served { connections: 1 });
     let wanted = format!(in alloc; "{SAVED}{READ}")?;
     let text = said(alloc, &door, 0)?;
@@ -83,7 +83,7 @@ fn the_keeper_is_given_back_with_all_that_was_saved(rt: HostRuntime) -> Result<(
     let mut door = door_of(alloc, SAVING, "", 0)?;
     let mut clock = always(alloc, 5_000);
     let host = host_of(alloc, MemKeeper::new(alloc), "", 1)?;
-    let Hosted { keeper, .. } = host_on(alloc, host, &mut door, &mut clock);
+    let Hosted { keeper, .. } = host_on(&rt, alloc, host, &mut door, &mut clock);
     let mut keeper = keeper;
     assert!(rt; matches!(keeper.len(), Ok(2)));
     Ok(())
@@ -103,7 +103,7 @@ fn a_session_is_kept_from_one_connection_to_the_next_in_west(rt: HostRuntime) ->
     let mut door = door_of(alloc, SAVING, IN_WEST, 0)?;
     let mut clock = always(alloc, 5_000);
     let host = host_of(alloc, MemKeeper::new(alloc), "", 2)?;
-    let hosted = host_on(alloc, host, &mut door, &mut clock);
+    let hosted = host_on(&rt, alloc, host, &mut door, &mut clock);
     assert_eq!(rt; hosted.end, HostEnd::Served { connections: 2 });
     let first = said(alloc, &door, 0)?;
     assert_eq!(rt; first.as_str(), SAVED);
@@ -156,7 +156,7 @@ fn a_page_is_kept_for_the_next_request(rt: HostRuntime) -> Result<(), Fail> {
     coming.push(both(5_000))?;
     let mut clock = MemClock::new(coming, both(30_000));
     let host = host_of(alloc, MemKeeper::new(alloc), "", 1)?;
-    let hosted = host_on(alloc, host, &mut door, &mut clock);
+    let hosted = host_on(&rt, alloc, host, &mut door, &mut clock);
     assert_eq!(rt; hosted.end, HostEnd::Served { connections: 1 });
     let wanted = format!(in alloc; "{SAVED}{CACHED}")?;
     let text = said(alloc, &door, 0)?;
@@ -191,7 +191,7 @@ fn templates_hold_templates_from_the_first_connection_on(rt: HostRuntime) -> Res
     let mut door = door_of(alloc, NESTED, "", 0)?;
     let mut clock = always(alloc, 5_000);
     let host = host_of(alloc, MemKeeper::new(alloc), "", 1)?;
-    let hosted = host_on(alloc, host, &mut door, &mut clock);
+    let hosted = host_on(&rt, alloc, host, &mut door, &mut clock);
     assert_eq!(rt; hosted.end, HostEnd::Served { connections: 1 });
     let text = said(alloc, &door, 0)?;
     assert!(rt; text.as_str().ends_with("<h1>P</h1>\n<p>two x</p>\n"));

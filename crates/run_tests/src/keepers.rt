@@ -9,7 +9,7 @@ use wiki_cli::Status;
 fn a_keeper_that_fails_to_start_is_told(rt: HostRuntime) -> Result<(), Fail> {
     let alloc = rt.alloc();
     let keeper = FailingKeeper::new(alloc, [1u64].to_vec(alloc)?, Vec::new(alloc));
-    let found = outcome_on(alloc, keeper, drill_of(b"end\n"))?;
+    let found = outcome_on(&rt, alloc, keeper, drill_of(b"end\n"))?;
     assert_eq!(rt; found.text.as_str(), "store-fault\n");
     assert_eq!(rt; found.status, Status::StoreFault);
     Ok(())
@@ -34,7 +34,12 @@ fn a_keeper_that_fails_to_count_is_told(rt: HostRuntime) -> Result<(), Fail> {
     let alloc = rt.alloc();
     for (call, status, text) in LENGTHS {
         let keeper = FailingKeeper::new(alloc, Vec::new(alloc), [call].to_vec(alloc)?);
-        let found = outcome_on(alloc, keeper, drill_of(b"beat\nview home 2 - 0 A\nend\n"))?;
+        let found = outcome_on(
+            &rt,
+            alloc,
+            keeper,
+            drill_of(b"beat\nview home 2 - 0 A\nend\n"),
+        )?;
         assert_eq!(rt; found.text.as_str(), text);
         assert_eq!(rt; found.status, status);
     }
@@ -46,7 +51,7 @@ fn a_made_script_on_a_keeper_that_fails_writes_no_counts(rt: HostRuntime) -> Res
     let alloc = rt.alloc();
     for call in [1u64, 2, 3, 4] {
         let keeper = FailingKeeper::new(alloc, Vec::new(alloc), [call].to_vec(alloc)?);
-        let found = outcome_on(alloc, keeper, words_of(&["stir", "7", "0"]))?;
+        let found = outcome_on(&rt, alloc, keeper, words_of(&["stir", "7", "0"]))?;
         assert_eq!(rt; found.text.as_str(), "store-fault\n");
         assert_eq!(rt; found.status, Status::StoreFault);
     }
@@ -88,7 +93,7 @@ const ON_ONE_ENTRY: [(&[&str], &[u8], &[u64], &str, Status); 4] = [
 #[test]
 fn nothing_is_run_on_a_history_that_has_entries(rt: HostRuntime) -> Result<(), Fail> {
     let alloc = rt.alloc();
-    let mut keeper = outcome_of(alloc, drill_of(b"beat\nend\n"))?.keeper;
+    let mut keeper = outcome_of(&rt, alloc, drill_of(b"beat\nend\n"))?.keeper;
     for (words, input, reads, text, status) in ON_ONE_ENTRY {
         let given = Given {
             words,
@@ -96,7 +101,7 @@ fn nothing_is_run_on_a_history_that_has_entries(rt: HostRuntime) -> Result<(), F
             reads,
             writes: &[],
         };
-        let found = outcome_on(alloc, keeper, given)?;
+        let found = outcome_on(&rt, alloc, keeper, given)?;
         assert_eq!(rt; found.text.as_str(), text);
         assert_eq!(rt; found.status, status);
         keeper = found.keeper;
@@ -213,9 +218,9 @@ fn after_each_failing_append_the_answers_are_right(rt: HostRuntime) -> Result<()
 
 #[test]
 fn the_keeper_is_given_back_with_its_entries(rt: HostRuntime) -> Result<(), Fail> {
-    let mut found = outcome_of(rt.alloc(), drill_of(THREE_APPENDS.as_bytes()))?;
+    let mut found = outcome_of(&rt, rt.alloc(), drill_of(THREE_APPENDS.as_bytes()))?;
     assert_eq!(rt; found.keeper.len()?, 3);
-    let mut found = outcome_of(rt.alloc(), drill_of(b"beat\nat 5\nend\n"))?;
+    let mut found = outcome_of(&rt, rt.alloc(), drill_of(b"beat\nat 5\nend\n"))?;
     assert_eq!(rt; found.keeper.len()?, 0);
     Ok(())
 }

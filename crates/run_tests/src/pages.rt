@@ -54,7 +54,7 @@ fn report_of(alloc: Global, blocks: &str) -> Result<String, Fail> {
 fn a_text_is_shown_as_a_page(rt: HostRuntime) -> Result<(), Fail> {
     for (text, blocks) in PAGES {
         let script = script_of(rt.alloc(), text)?;
-        let found = outcome_of(rt.alloc(), drill_of(script.as_bytes()))?;
+        let found = outcome_of(&rt, rt.alloc(), drill_of(script.as_bytes()))?;
         let wanted = report_of(rt.alloc(), blocks)?;
         assert_eq!(rt; found.text.as_str(), wanted.as_str());
     }

@@ -3,10 +3,16 @@ use crate::setting::{drill_of, outcome_of};
 use std::alloc::Global;
 use std::process::Abort;
 use std::test::Fail;
+use std::thread::Threads;
 use wiki_cli::Status;
 
-fn assert_refused(rt: &impl Abort, alloc: Global, script: &[u8], line: u64) -> Result<(), Fail> {
-    let found = outcome_of(alloc, drill_of(script))?;
+fn assert_refused<R: Abort + Threads + Sync>(
+    rt: &R,
+    alloc: Global,
+    script: &[u8],
+    line: u64,
+) -> Result<(), Fail> {
+    let found = outcome_of(rt, alloc, drill_of(script))?;
     let wanted = format!(in alloc; "script line={line}\n")?;
     assert_eq!(rt; found.text.as_str(), wanted.as_str());
     assert_eq!(rt; found.status, Status::Script { line });

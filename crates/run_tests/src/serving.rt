@@ -7,6 +7,7 @@ use revision_keeper::{Keeper, MemKeeper};
 use std::alloc::Global;
 use std::str;
 use std::test::Fail;
+use std::thread::Threads;
 use wiki_cli::{Outside, Status, run};
 
 /// What a run of `serve` is given: its words, its layout, the inputs of the door's connections, and which reads of the
@@ -42,7 +43,8 @@ struct Outcome {
 }
 
 /// A run over this keeper; both clocks always read 5,000, and all words are 0.
-fn outcome_on<K: Keeper + Drop>(
+fn outcome_on<R: Threads + Sync, K: Keeper + Drop>(
+    rt: &R,
     alloc: Global,
     keeper: K,
     given: Given<'_>,
@@ -64,7 +66,7 @@ fn outcome_on<K: Keeper + Drop>(
         lots: MemLots::new(Vec::new(alloc), 0),
         wire: FarmWire::new(alloc),
     };
-    let status = run(alloc, &words, &mut outside);
+    let status = run(rt, alloc, &words, &mut outside);
     let Outside {
         sink,
         keeper,
@@ -82,8 +84,8 @@ fn outcome_on<K: Keeper + Drop>(
 }
 
 /// A run over an empty history.
-fn outcome_of(alloc: Global, given: Given<'_>) -> Result<Outcome, Fail> {
-    outcome_on(alloc, MemKeeper::new(alloc), given)
+fn outcome_of<R: Threads + Sync>(rt: &R, alloc: Global, given: Given<'_>) -> Result<Outcome, Fail> {
+    outcome_on(rt, alloc, MemKeeper::new(alloc), given)
 }
 
 /// A door over connections with these inputs; the calls of `next` of these numbers fail.
@@ -161,7 +163,7 @@ Connection: keep-alive\r
 fn an_edit_and_a_view_are_served_on_one_connection(rt: HostRuntime) -> Result<(), Fail> {
     let alloc = rt.alloc();
     let input = format!(in alloc; "{SAVING}{READING}")?;
-    let found = outcome_of(alloc, serving(&["serve"], &[&input]))?;
+    let found = outcome_of(&rt, alloc, serving(&["serve"], &[&input]))?;
     assert_eq!(rt; found.text.as_str(), "served connections=1\n");
     assert_eq!(rt; found.status, Status::Ok);
     let wanted = format!(in alloc; "{SAVED}{READ}")?;
@@ -174,7 +176,7 @@ fn an_edit_and_a_view_are_served_on_one_connection(rt: HostRuntime) -> Result<()
 fn connections_are_served_one_after_another(rt: HostRuntime) -> Result<(), Fail> {
     let alloc = rt.alloc();
     let words = &["serve", "--connections", "2"];
-    let found = outcome_of(alloc, serving(words, &[SAVING, READING, READING]))?;
+    let found = outcome_of(&rt, alloc, serving(words, &[SAVING, READING, READING]))?;
     assert_eq!(rt; found.text.as_str(), "served connections=2\n");
     let first = said(alloc, &found.door, 0)?;
     assert_eq!(rt; first.as_str(), SAVED);
@@ -187,7 +189,7 @@ fn connections_are_served_one_after_another(rt: HostRuntime) -> Result<(), Fail>
 #[test]
 fn a_door_that_has_no_more_ends_the_serving(rt: HostRuntime) -> Result<(), Fail> {
     let given = serving(&["serve", "--connections=5", "--store", "x"], &["", ""]);
-    let found = outcome_of(rt.alloc(), given)?;
+    let found = outcome_of(&rt, rt.alloc(), given)?;
     assert_eq!(rt; found.text.as_str(), "served connections=2\n");
     assert_eq!(rt; found.status, Status::Ok);
     Ok(())
@@ -199,7 +201,7 @@ fn a_layout_is_refused_by_its_rule(rt: HostRuntime) -> Result<(), Fail> {
         layout: "[home]\nslots = 1\n",
         ..serving(&["serve"], &[READING])
     };
-    let found = outcome_of(rt.alloc(), given)?;
+    let found = outcome_of(&rt, rt.alloc(), given)?;
     assert_eq!(rt; found.text.as_str(), "layout rule=4\n");
     assert_eq!(rt; found.status, Status::Layout { rule: 4 });
     assert!(rt; found.door.returned(0).is_none());
@@ -217,7 +219,7 @@ fn a_layout_that_is_too_long_is_no_document(rt: HostRuntime) -> Result<(), Fail>
         layout: &layout,
         ..serving(&["serve"], &[READING])
     };
-    let found = outcome_of(alloc, given)?;
+    let found = outcome_of(&rt, alloc, given)?;
     assert_eq!(rt; found.text.as_str(), "layout rule=1\n");
     assert_eq!(rt; found.status, Status::Layout { rule: 1 });
     Ok(())
@@ -230,7 +232,7 @@ fn a_door_that_fails_is_named(rt: HostRuntime) -> Result<(), Fail> {
         doors: &[2],
         ..serving(&["serve", "--connections", "2"], &[SAVING, READING])
     };
-    let found = outcome_of(alloc, given)?;
+    let found = outcome_of(&rt, alloc, given)?;
     assert_eq!(rt; found.text.as_str(), "door-fault\n");
     assert_eq!(rt; found.status, Status::DoorFault);
     let first = said(alloc, &found.door, 0)?;
@@ -248,7 +250,7 @@ fn a_keeper_that_cannot_be_made_ready_is_named(rt: HostRuntime) -> Result<(), Fa
         reads: &[1],
         ..serving(&["serve"], &[READING])
     };
-    let found = outcome_on(alloc, keeper, given)?;
+    let found = outcome_on(&rt, alloc, keeper, given)?;
     assert_eq!(rt; found.text.as_str(), "store-fault\n");
     assert_eq!(rt; found.status, Status::StoreFault);
     Ok(())
@@ -260,7 +262,7 @@ fn a_layout_that_cannot_be_read_is_named(rt: HostRuntime) -> Result<(), Fail> {
         reads: &[1],
         ..serving(&["serve"], &[READING])
     };
-    let found = outcome_of(rt.alloc(), given)?;
+    let found = outcome_of(&rt, rt.alloc(), given)?;
     assert_eq!(rt; found.text.as_str(), "read-fault\n");
     assert_eq!(rt; found.status, Status::ReadFault);
     assert!(rt; found.door.returned(0).is_none());
@@ -274,7 +276,7 @@ fn a_line_that_cannot_be_written_leaves_what_was_served(rt: HostRuntime) -> Resu
         writes: &[1],
         ..serving(&["serve"], &[SAVING])
     };
-    let found = outcome_of(alloc, given)?;
+    let found = outcome_of(&rt, alloc, given)?;
     assert_eq!(rt; found.text.as_str(), "");
     assert_eq!(rt; found.status, Status::WriteFault);
     let first = said(alloc, &found.door, 0)?;
@@ -299,7 +301,7 @@ fn words_that_are_no_options_serve_nothing(rt: HostRuntime) -> Result<(), Fail> 
         &["serve", "--help"],
     ];
     for words in refused {
-        let found = outcome_of(alloc, serving(words, &[READING]))?;
+        let found = outcome_of(&rt, alloc, serving(words, &[READING]))?;
         assert_eq!(rt; found.text.as_str(), USAGE);
         assert_eq!(rt; found.status, Status::Usage);
         assert!(rt; found.door.returned(0).is_none());

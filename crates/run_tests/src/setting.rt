@@ -5,6 +5,7 @@ use revision_keeper::{Keeper, MemKeeper};
 use std::alloc::Global;
 use std::process::Abort;
 use std::test::Fail;
+use std::thread::Threads;
 use wiki_cli::{Outside, Status, run};
 
 /// What a run is given: its words, its input, and which reads and writes fail, counted from 1.
@@ -45,14 +46,15 @@ pub struct Outcome<K: Drop> {
 }
 
 /// A run over this keeper.
-pub fn outcome_on<K: Keeper + Drop>(
+pub fn outcome_on<R: Threads + Sync, K: Keeper + Drop>(
+    rt: &R,
     alloc: Global,
     keeper: K,
     given: Given<'_>,
 ) -> Result<Outcome<K>, Fail> {
     let source = MemSource::new(given.input.to_vec(alloc)?, given.reads.to_vec(alloc)?);
     let sink = MemSink::new(alloc, given.writes.to_vec(alloc)?);
-    let (status, sink, keeper) = run_over(alloc, given.words, source, sink, keeper)?;
+    let (status, sink, keeper) = run_over(rt, alloc, given.words, source, sink, keeper)?;
     let text = std::str::from_utf8(sink.bytes())?;
     Ok(Outcome {
         status,
@@ -62,13 +64,18 @@ pub fn outcome_on<K: Keeper + Drop>(
 }
 
 /// A run over an empty keeper.
-pub fn outcome_of(alloc: Global, given: Given<'_>) -> Result<Outcome<MemKeeper>, Fail> {
-    outcome_on(alloc, MemKeeper::new(alloc), given)
+pub fn outcome_of<R: Threads + Sync>(
+    rt: &R,
+    alloc: Global,
+    given: Given<'_>,
+) -> Result<Outcome<MemKeeper>, Fail> {
+    outcome_on(rt, alloc, MemKeeper::new(alloc), given)
 }
 
 /// A run over these streams and this keeper: how it ended, the sink, and the keeper that was given back. Nothing comes
 /// through the door, and the clocks stand.
-pub fn run_over<I: Source + Drop, O: Sink + Drop, K: Keeper + Drop>(
+pub fn run_over<R: Threads + Sync, I: Source + Drop, O: Sink + Drop, K: Keeper + Drop>(
+    rt: &R,
     alloc: Global,
     words: &[&str],
     source: I,
@@ -89,7 +96,7 @@ pub fn run_over<I: Source + Drop, O: Sink + Drop, K: Keeper + Drop>(
         lots: MemLots::new(Vec::new(alloc), 0),
         wire: FarmWire::new(alloc),
     };
-    let status = run(alloc, &words, &mut outside);
+    let status = run(rt, alloc, &words, &mut outside);
     let Outside { sink, keeper, .. } = outside;
     match keeper {
         Some(keeper) => Ok((status, sink, keeper)),
@@ -107,22 +114,22 @@ pub fn owned(alloc: Global, words: &[&str]) -> Result<Vec<String>, Fail> {
 }
 
 /// A drill of this script over this keeper is done, and writes this report.
-pub fn assert_report_on<K: Keeper + Drop>(
-    rt: &impl Abort,
+pub fn assert_report_on<R: Abort + Threads + Sync, K: Keeper + Drop>(
+    rt: &R,
     alloc: Global,
     keeper: K,
     script: &str,
     report: &str,
 ) -> Result<(), Fail> {
-    let found = outcome_on(alloc, keeper, drill_of(script.as_bytes()))?;
+    let found = outcome_on(rt, alloc, keeper, drill_of(script.as_bytes()))?;
     assert_eq!(rt; found.text.as_str(), report);
     assert_eq!(rt; found.status, Status::Ok);
     Ok(())
 }
 
 /// A drill of this script over an empty keeper is done, and writes this report.
-pub fn assert_report(
-    rt: &impl Abort,
+pub fn assert_report<R: Abort + Threads + Sync>(
+    rt: &R,
     alloc: Global,
     script: &str,
     report: &str,

@@ -20,7 +20,7 @@ fn a_failed_read_is_told(rt: HostRuntime) -> Result<(), Fail> {
             reads: &reads,
             ..drill_of(b"end\n")
         };
-        let found = outcome_of(rt.alloc(), given)?;
+        let found = outcome_of(&rt, rt.alloc(), given)?;
         assert_eq!(rt; found.text.as_str(), text);
         assert_eq!(rt; found.status, status);
     }
@@ -34,7 +34,7 @@ fn no_step_is_made_before_the_script_is_read(rt: HostRuntime) -> Result<(), Fail
             reads: &[2],
             ..drill_of(input)
         };
-        let mut found = outcome_of(rt.alloc(), given)?;
+        let mut found = outcome_of(&rt, rt.alloc(), given)?;
         assert_eq!(rt; found.status, Status::ReadFault);
         assert_eq!(rt; found.keeper.len()?, 0);
     }
@@ -59,7 +59,7 @@ fn only_a_report_that_is_not_written_is_a_write_fault(rt: HostRuntime) -> Result
             reads,
             writes: &[1],
         };
-        let found = outcome_of(rt.alloc(), given)?;
+        let found = outcome_of(&rt, rt.alloc(), given)?;
         assert_eq!(rt; found.text.as_str(), "");
         assert_eq!(rt; found.status, status);
     }
@@ -94,7 +94,7 @@ fn a_write_that_fails_ends_the_report_and_not_the_steps(rt: HostRuntime) -> Resu
             writes: &writes,
             ..drill_of(THREE_ENTRIES)
         };
-        let mut found = outcome_of(rt.alloc(), given)?;
+        let mut found = outcome_of(&rt, rt.alloc(), given)?;
         assert_eq!(rt; found.status, Status::WriteFault);
         assert!(rt; THREE_ENTRIES_REPORT.starts_with(found.text.as_str()));
         assert!(rt; 0 < found.text.len() && found.text.len() < THREE_ENTRIES_REPORT.len());
@@ -108,7 +108,7 @@ fn a_run_over_streams_that_never_fail_is_done(rt: HostRuntime) -> Result<(), Fai
     let alloc = rt.alloc();
     let source = SureSource::new(THREE_ENTRIES.to_vec(alloc)?);
     let sink = SureSink::new(alloc);
-    let (status, sink, _) = run_over(alloc, &["drill"], source, sink, MemKeeper::new(alloc))?;
+    let (status, sink, _) = run_over(&rt, alloc, &["drill"], source, sink, MemKeeper::new(alloc))?;
     assert_eq!(rt; status, Status::Ok);
     assert_eq!(rt; sink.bytes(), THREE_ENTRIES_REPORT.as_bytes());
     Ok(())

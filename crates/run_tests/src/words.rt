@@ -28,7 +28,7 @@ const NO_COMMANDS: [&[&str]; 15] = [
 #[test]
 fn other_words_get_the_usage_line(rt: HostRuntime) -> Result<(), Fail> {
     for words in NO_COMMANDS {
-        let found = outcome_of(rt.alloc(), words_of(words))?;
+        let found = outcome_of(&rt, rt.alloc(), words_of(words))?;
         assert_eq!(rt; found.text.as_str(), USAGE);
         assert_eq!(rt; found.status, Status::Usage);
     }
@@ -67,7 +67,7 @@ const STIRRED: [(&str, &str, &str, u64); 4] = [
 fn the_answers_of_a_made_script_are_counted(rt: HostRuntime) -> Result<(), Fail> {
     for (seed, steps, text, entries) in STIRRED {
         let words = ["stir", seed, steps];
-        let mut found = outcome_of(rt.alloc(), words_of(&words))?;
+        let mut found = outcome_of(&rt, rt.alloc(), words_of(&words))?;
         assert_eq!(rt; found.text.as_str(), text);
         assert_eq!(rt; found.status, Status::Ok);
         assert_eq!(rt; found.keeper.len()?, entries);

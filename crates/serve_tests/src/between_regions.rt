@@ -20,7 +20,7 @@ Host: wiki.example\r
     let mut served = small_farm(rt.alloc())?;
     let mut wire = FarmWire::new(rt.alloc());
     let mut conn = conn_of(rt.alloc(), input.as_bytes(), 65_536)?;
-    let end = serve_at(rt.alloc(), &mut served, &mut conn, &mut wire, 5_000)?;
+    let end = serve_at(&rt, rt.alloc(), &mut served, &mut conn, &mut wire, 5_000)?;
     assert_eq!(rt; end, ConnEnd::Closed);
     assert_eq!(rt; served.farm.issued(), 2);
     assert_eq!(rt; served.sent, 2);
@@ -39,14 +39,14 @@ Content-Length: 31\r
 \r
 title=A&base=0&token=k&text=one";
     let mut conn = conn_of(rt.alloc(), input.as_bytes(), 65_536)?;
-    let end = serve_at(rt.alloc(), &mut served, &mut conn, &mut wire, 5_000)?;
+    let end = serve_at(&rt, rt.alloc(), &mut served, &mut conn, &mut wire, 5_000)?;
     assert_eq!(rt; end, ConnEnd::Closed);
     assert_eq!(rt; served.farm.issued(), 2);
     assert_eq!(rt; served.sent, 0);
     assert!(rt; served.farm.receipt(1, Region::West).is_none());
     let input = b"GET /wiki/B HTTP/1.1\r\nHost: wiki.example\r\n\r\n";
     let mut conn = conn_of(rt.alloc(), input, 65_536)?;
-    let end = serve_at(rt.alloc(), &mut served, &mut conn, &mut wire, 5_000)?;
+    let end = serve_at(&rt, rt.alloc(), &mut served, &mut conn, &mut wire, 5_000)?;
     assert_eq!(rt; end, ConnEnd::Closed);
     assert_eq!(rt; served.sent, 2);
     assert!(rt; served.farm.receipt(1, Region::West).is_some());
@@ -76,7 +76,7 @@ Host: wiki.example\r
     let mut served = small_farm(rt.alloc())?;
     let mut wire = FarmWire::scripted(rt.alloc(), deals);
     let mut conn = conn_of(rt.alloc(), input.as_bytes(), 65_536)?;
-    let end = serve_at(rt.alloc(), &mut served, &mut conn, &mut wire, 5_000)?;
+    let end = serve_at(&rt, rt.alloc(), &mut served, &mut conn, &mut wire, 5_000)?;
     assert_eq!(rt; end, ConnEnd::Closed);
     assert_eq!(rt; served.sent, 2);
     assert!(rt; served.farm.receipt(1, Region::West).is_some());

@@ -5,12 +5,15 @@
 //!
 //! - `browsing`: an edit and a view, what they are answered byte for byte, and how a connection ends;
 //! - `hostile`: input that is cut, refused or too large, and writes that fail;
+//! - `batches`: several pages at once;
 //! - `between_regions`: messages that are sent and taken before a request, and the second region;
 //! - `setting`: a small farm, and serving bytes on it.
 //!
 //! The error of each test is `std::test::Fail`, so that `?` takes every refusal.
 #![tactic(auto)]
 
+#[cfg(test)]
+mod batches;
 #[cfg(test)]
 mod between_regions;
 #[cfg(test)]

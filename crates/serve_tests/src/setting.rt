@@ -4,14 +4,16 @@ use farm_base::{BOUND_MAX, MemClock, MemConn, MemLots, Moment, Readings};
 use farm_core::{Farm, Page};
 use purge_relay::{FarmWire, Wire};
 use revision_keeper::{Keeper, MemKeeper};
+use slot_cache::SlotCache;
 use std::alloc::Global;
 use std::str;
 use std::test::Fail;
-use wan_cache::{MapCache, RegionStore};
+use std::thread::Threads;
+use wan_cache::RegionStore;
 use wiki_serve::{ConnEnd, ServedFarm, serve_conn};
 
 /// The farm of these tests.
-pub type TestFarm = ServedFarm<MemKeeper, MapCache<Page>>;
+pub type TestFarm = ServedFarm<MemKeeper, SlotCache<Page>>;
 
 /// How many entries a replica applies before a request, unless a layout says otherwise.
 const PACE: u32 = 1_000; // entries
@@ -27,8 +29,8 @@ pub fn farm_over(alloc: Global, keeper: MemKeeper, now: u64) -> Result<TestFarm,
     if !weights || plan.bounds.commit_delay > BOUND_MAX || hold_off == 0 || hold_off > 180_000 {
         return Err(Fail::new("no plan of a farm"));
     }
-    let home = MapCache::new(alloc, 65_536, hold_off);
-    let west = MapCache::new(alloc, 65_536, hold_off);
+    let home = SlotCache::new(alloc, 65_536, hold_off)?;
+    let west = SlotCache::new(alloc, 65_536, hold_off)?;
     match Farm::new(alloc, keeper, plan, home, west, both(now)) {
         Ok(farm) => Ok(ServedFarm { farm, sent: 0 }),
         Err(_) => Err(Fail::new("no farm")),
@@ -70,19 +72,32 @@ pub fn conn_failing(
 }
 
 /// Serves the connection at this moment of both regions, with words that are 0.
-pub fn serve_at<K: Keeper, S: RegionStore<Page>, W: Wire>(
+pub fn serve_at<R: Threads + Sync, K: Keeper, W: Wire>(
+    rt: &R,
     alloc: Global,
-    served: &mut ServedFarm<K, S>,
+    served: &mut ServedFarm<K, SlotCache<Page>>,
     conn: &mut MemConn,
     wire: &mut W,
     now: u64,
 ) -> Result<ConnEnd, Fail> {
+    let mut clock = MemClock::new(Vec::new(alloc), both(now));
+    serve_by(rt, alloc, served, conn, wire, &mut clock)
+}
+
+/// Serves the connection by this clock, with words that are 0.
+pub fn serve_by<R: Threads + Sync, K: Keeper, W: Wire>(
+    rt: &R,
+    alloc: Global,
+    served: &mut ServedFarm<K, SlotCache<Page>>,
+    conn: &mut MemConn,
+    wire: &mut W,
+    clock: &mut MemClock,
+) -> Result<ConnEnd, Fail> {
     if !served.farm.is_whole() || served.farm.is_open(0) {
         return Err(Fail::new("the farm is not ready to be served"));
     }
-    let mut clock = MemClock::new(Vec::new(alloc), both(now));
     let mut lots = MemLots::new(Vec::new(alloc), 0);
-    Ok(serve_conn(alloc, served, conn, &mut clock, &mut lots, wire))
+    Ok(serve_conn(rt, alloc, served, conn, clock, &mut lots, wire))
 }
 
 /// What one connection wrote, and how it ended.
@@ -92,13 +107,18 @@ pub struct Talked {
 }
 
 /// Serves this input at 5,000 on an empty farm, in calls of any size.
-pub fn talk(alloc: Global, input: &[u8]) -> Result<Talked, Fail> {
-    talk_in_pieces(alloc, input, 65_536)
+pub fn talk<R: Threads + Sync>(rt: &R, alloc: Global, input: &[u8]) -> Result<Talked, Fail> {
+    talk_in_pieces(rt, alloc, input, 65_536)
 }
 
-pub fn talk_in_pieces(alloc: Global, input: &[u8], piece: usize) -> Result<Talked, Fail> {
+pub fn talk_in_pieces<R: Threads + Sync>(
+    rt: &R,
+    alloc: Global,
+    input: &[u8],
+    piece: usize,
+) -> Result<Talked, Fail> {
     let mut conn = conn_of(alloc, input, piece)?;
-    let end = serve_new(alloc, &mut conn)?;
+    let end = serve_new(rt, alloc, &mut conn)?;
     Ok(Talked {
         end,
         text: written(alloc, &conn)?,
@@ -106,10 +126,14 @@ pub fn talk_in_pieces(alloc: Global, input: &[u8], piece: usize) -> Result<Talke
 }
 
 /// Serves the connection at 5,000 on an empty farm.
-pub fn serve_new(alloc: Global, conn: &mut MemConn) -> Result<ConnEnd, Fail> {
+pub fn serve_new<R: Threads + Sync>(
+    rt: &R,
+    alloc: Global,
+    conn: &mut MemConn,
+) -> Result<ConnEnd, Fail> {
     let mut served = small_farm(alloc)?;
     let mut wire = FarmWire::new(alloc);
-    serve_at(alloc, &mut served, conn, &mut wire, 5_000)
+    serve_at(rt, alloc, &mut served, conn, &mut wire, 5_000)
 }
 
 /// What was written over the connection.

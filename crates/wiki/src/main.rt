@@ -74,7 +74,7 @@ fn main(rt: HostRuntime) -> ExitCode {
         wire: FarmWire::new(alloc),
     };
     let status = match words {
-        Ok(words) => run(alloc, &words, &mut outside),
+        Ok(words) => run(&rt, alloc, &words, &mut outside),
         Err(error) => refuse_words(&error, &mut outside.sink),
     };
     ExitCode::from(status.number())

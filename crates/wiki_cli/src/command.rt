@@ -74,8 +74,8 @@ fn read_serve(words: &[String]) -> Option<Command>
     })
 }
 
-/// The file that keeps the history of the wiki that these words serve, for whoever makes the keeper; none if the history
-/// ends with the process, or if the words are no command `serve`. It takes no memory.
+/// The file that keeps the history of the wiki that these words serve, for whoever makes the keeper; none if the
+/// history ends with the process, or if the words are no command `serve`. It takes no memory.
 #[tactic(auto, using(crate::proofs::CommandWords::no_serve, crate::proofs::CommandWords::store_said))]
 pub fn store_of(words: &[String]) -> Option<&str>
     ensures { NamesStore (word_texts words.now) (option_map (λ path. path.now) result) }

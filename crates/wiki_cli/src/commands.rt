@@ -33,6 +33,7 @@ use purge_relay::Wire;
 use revision_keeper::{KeepFault, Keeper};
 use script_generator::stir;
 use std::alloc::Global;
+use std::thread::Threads;
 
 /// Runs the script of these bytes, and writes its report or its refusal.
 pub fn drill_bytes<K: Keeper + Drop, O: Sink>(
@@ -161,13 +162,15 @@ pub fn drill_source<I: Source, K: Keeper + Drop, O: Sink>(
 }
 
 /// Does what a command says. A script is run if the history has no entries yet; a wiki is served over any history.
-pub fn perform<I, O, D, K, C, L, W>(
+pub fn perform<R, I, O, D, K, C, L, W>(
+    rt: &R,
     alloc: Global,
     command: Command,
     outside: &mut Outside<I, O, D, K, C, L, W>,
     keeper: K,
 ) -> Ended<K>
 where
+    R: Threads + Sync,
     I: Source + Drop,
     O: Sink + Drop,
     D: Door + Drop,
@@ -221,7 +224,7 @@ where
             keeper,
             &mut outside.sink,
         ),
-        Command::Serve { connections } => serve_wiki(alloc, outside, keeper, connections),
+        Command::Serve { connections } => serve_wiki(rt, alloc, outside, keeper, connections),
     }
 }
 

@@ -24,6 +24,7 @@ use farm_base::{Clock, Door, Lots, Sink, Source};
 use purge_relay::Wire;
 use revision_keeper::Keeper;
 use std::alloc::Global;
+use std::thread::Threads;
 
 /// All that lies outside the program: where a script or a layout comes from and where a report goes, where
 /// connections come from, the history, the clocks, random words, and the wire between the regions.
@@ -48,12 +49,14 @@ pub struct Outside<I: Drop, O: Drop, D: Drop, K: Drop, C: Drop, L: Drop, W: Drop
 /// keeper's history; what is written is one line with their number.
 ///
 /// Nothing is said of when memory runs out.
-pub fn run<I, O, D, K, C, L, W>(
+pub fn run<R, I, O, D, K, C, L, W>(
+    rt: &R,
     alloc: Global,
     words: &[String],
     outside: &mut Outside<I, O, D, K, C, L, W>,
 ) -> Status
 where
+    R: Threads + Sync,
     I: Source + Drop,
     O: Sink + Drop,
     D: Door + Drop,
@@ -156,7 +159,7 @@ where
         return refuse(&mut outside.sink, USAGE, Status::Usage);
     };
     let keeper = outside.keeper.take().unwrap();
-    let ended = perform(alloc, command, outside, keeper);
+    let ended = perform(rt, alloc, command, outside, keeper);
     outside.keeper = Some(ended.keeper);
     ended.status
 }

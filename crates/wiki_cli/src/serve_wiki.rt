@@ -1,4 +1,5 @@
-// The command `serve`: a layout is read, a wiki of it is hosted for the connections of a door, and their number written.
+// The command `serve`: a layout is read, a wiki of it is hosted for the connections of a door, and their number is
+// written.
 ghost use Rattle.std.specs.Prelude.{◌≡◌, ◌≤◌, IfOk, IfSome, ℕ};
 ghost use Rattle.std.specs.String.{string_bytes};
 ghost use Rattle.wiki_model.specs.Steps.{Rose};
@@ -21,18 +22,21 @@ use farm_base::{Clock, Door, InputFault, Lots, Sink, Source, read_all, write_all
 use purge_relay::Wire;
 use revision_keeper::{KeepFault, Keeper};
 use std::alloc::{AllocError, Global};
+use std::thread::Threads;
 use wiki_host::{Host, HostEnd, serve_door};
 use wiki_layout::LAYOUT_MAX;
 
 /// Makes the keeper ready, reads a layout from the source, serves at most `wanted` connections of a wiki of it, and
 /// writes how many there were, or why there were none.
-pub fn serve_wiki<I, O, D, K, C, L, W>(
+pub fn serve_wiki<R, I, O, D, K, C, L, W>(
+    rt: &R,
     alloc: Global,
     outside: &mut Outside<I, O, D, K, C, L, W>,
     keeper: K,
     wanted: u64,
 ) -> Ended<K>
 where
+    R: Threads + Sync,
     I: Source + Drop,
     O: Sink + Drop,
     D: Door + Drop,
@@ -66,7 +70,7 @@ where
 {
     let mut keeper = keeper;
     match keeper.start() {
-        Ok(()) => serve_ready(alloc, outside, keeper, wanted),
+        Ok(()) => serve_ready(rt, alloc, outside, keeper, wanted),
         Err(KeepFault::Fault) => Ended {
             status: refuse(&mut outside.sink, STORE_FAULT, Status::StoreFault),
             keeper,
@@ -79,13 +83,15 @@ where
 }
 
 /// The same with a keeper that is ready.
-fn serve_ready<I, O, D, K, C, L, W>(
+fn serve_ready<R, I, O, D, K, C, L, W>(
+    rt: &R,
     alloc: Global,
     outside: &mut Outside<I, O, D, K, C, L, W>,
     keeper: K,
     wanted: u64,
 ) -> Ended<K>
 where
+    R: Threads + Sync,
     I: Source + Drop,
     O: Sink + Drop,
     D: Door + Drop,
@@ -119,6 +125,7 @@ where
 {
     match read_all(alloc, LAYOUT_MAX, &mut outside.source) {
         Ok(layout) => serve_bytes(
+            rt,
             alloc,
             outside,
             Host {
@@ -139,12 +146,14 @@ where
 }
 
 /// The same with the layout that was read.
-fn serve_bytes<I, O, D, K, C, L, W>(
+fn serve_bytes<R, I, O, D, K, C, L, W>(
+    rt: &R,
     alloc: Global,
     outside: &mut Outside<I, O, D, K, C, L, W>,
     host: Host<K>,
 ) -> Ended<K>
 where
+    R: Threads + Sync,
     I: Source + Drop,
     O: Sink + Drop,
     D: Door + Drop,
@@ -178,6 +187,7 @@ where
         (Rose (K.faults host.keeper) (K.faults result.keeper)) result.status }
 {
     let hosted = serve_door(
+        rt,
         alloc,
         host,
         &mut outside.door,
@@ -193,7 +203,8 @@ where
 
 /// Writes how a hosting ended.
 fn write_end<O: Sink>(alloc: Global, sink: &mut O, end: HostEnd) -> Status
-    ensures { WritesHostEnd end (O.written sink.old) (O.written sink.new) (O.faults sink.old) (O.faults sink.new) result }
+    ensures { WritesHostEnd end (O.written sink.old) (O.written sink.new) (O.faults sink.old) (O.faults sink.new)
+        result }
 {
     match end {
         HostEnd::Served { connections } => write_served(alloc, sink, connections),

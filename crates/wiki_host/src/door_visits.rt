@@ -1,5 +1,6 @@
 // The connections of a door, one after another: each is taken, served to its end, and handed back.
 ghost use Rattle.std.specs.Prelude.{◌≡◌, ◌≤◌, None};
+ghost use Rattle.slot_cache.specs.AsModel.{map_of};
 ghost use Rattle.farm_core.specs.FarmParts.{IsWhole, SameShape};
 ghost use Rattle.farm_steps.specs.RequestMap.{open_at};
 ghost use Rattle.wiki_serve.specs.Connections.{conn_seen};
@@ -11,7 +12,9 @@ use farm_base::{Clock, Door, Lots, OutFault};
 use farm_core::Page;
 use purge_relay::Wire;
 use revision_keeper::Keeper;
+use slot_cache::SlotCache;
 use std::alloc::Global;
+use std::thread::Threads;
 use wan_cache::RegionStore;
 use wiki_serve::{ServedFarm, serve_conn};
 
@@ -33,18 +36,19 @@ pub enum Next {
 
 /// Serves connections until as many were served as are wanted, or the door has no more, and answers how many. It fails
 /// if the door does.
-pub fn serve_visits<D, K, S, C, L, W>(
+pub fn serve_visits<R, D, K, C, L, W>(
+    rt: &R,
     alloc: Global,
-    host: &mut OpenHost<K, S>,
+    host: &mut OpenHost<K, SlotCache<Page>>,
     door: &mut D,
     clock: &mut C,
     lots: &mut L,
     wire: &mut W,
 ) -> Result<u64, OutFault>
 where
+    R: Threads + Sync,
     D: Door,
     K: Keeper + Drop,
-    S: RegionStore<Page> + Drop,
     C: Clock,
     L: Lots,
     W: Wire,
@@ -61,15 +65,15 @@ where
         (heard_seen (C.exposed clock.new) (L.exposed lots.new) (W.carried wire.new) (W.refused wire.new)
         (W.empty wire.new))
         (unsent_of host.old.served.farm host.old.served.sent) (unsent_of host.new.served.farm host.new.served.sent)
-        (StandsSent K.content K.faults S.cache host.old.served.farm host.old.served.sent)
-        (StandsSent K.content K.faults S.cache host.new.served.farm host.new.served.sent) result }
+        (StandsSent K.content K.faults map_of host.old.served.farm host.old.served.sent)
+        (StandsSent K.content K.faults map_of host.new.served.farm host.new.served.sent) result }
     ensures whole { IsWhole host.new.served.farm }
     ensures free { open_at host.new.served.farm.requests 0 ≡ None }
     ensures shape { SameShape host.old.served.farm host.new.served.farm }
     ensures counts { K.faults host.old.served.farm.keeper ≤ K.faults host.new.served.farm.keeper }
 {
     for connections in 0..host.wanted {
-        match serve_next(alloc, &mut host.served, door, clock, lots, wire) {
+        match serve_next(rt, alloc, &mut host.served, door, clock, lots, wire) {
             Ok(Next::Served) => {}
             Ok(Next::NoneLeft) => return Ok(connections),
             Err(fault) => return Err(fault),
@@ -79,18 +83,19 @@ where
 }
 
 // Serves the door's next connection to its end, and hands it back.
-fn serve_next<D, K, S, C, L, W>(
+fn serve_next<R, D, K, C, L, W>(
+    rt: &R,
     alloc: Global,
-    served: &mut ServedFarm<K, S>,
+    served: &mut ServedFarm<K, SlotCache<Page>>,
     door: &mut D,
     clock: &mut C,
     lots: &mut L,
     wire: &mut W,
 ) -> Result<Next, OutFault>
 where
+    R: Threads + Sync,
     D: Door,
     K: Keeper + Drop,
-    S: RegionStore<Page> + Drop,
     C: Clock,
     L: Lots,
     W: Wire,
@@ -107,8 +112,8 @@ where
         (heard_seen (C.exposed clock.new) (L.exposed lots.new) (W.carried wire.new) (W.refused wire.new)
         (W.empty wire.new))
         (unsent_of served.old.farm served.old.sent) (unsent_of served.new.farm served.new.sent)
-        (StandsSent K.content K.faults S.cache served.old.farm served.old.sent)
-        (StandsSent K.content K.faults S.cache served.new.farm served.new.sent) result }
+        (StandsSent K.content K.faults map_of served.old.farm served.old.sent)
+        (StandsSent K.content K.faults map_of served.new.farm served.new.sent) result }
     ensures whole { IsWhole served.new.farm }
     ensures free { open_at served.new.farm.requests 0 ≡ None }
     ensures shape { SameShape served.old.farm served.new.farm }
@@ -117,7 +122,7 @@ where
     match door.next() {
         Ok(Some(conn)) => {
             let mut conn = conn;
-            serve_conn(alloc, served, &mut conn, clock, lots, wire);
+            serve_conn(rt, alloc, served, &mut conn, clock, lots, wire);
             door.done(conn);
             Ok(Next::Served)
         }

@@ -18,6 +18,7 @@ use purge_relay::Wire;
 use revision_keeper::Keeper;
 use slot_cache::SlotCache;
 use std::alloc::Global;
+use std::thread::Threads;
 
 /// What is to be hosted.
 #[derive(Drop)]
@@ -57,7 +58,8 @@ pub struct Hosted<K: Drop> {
 ///
 /// Each connection is handed back before the next is asked for, whatever it ended with. No connection is asked for
 /// after as many as are wanted.
-pub fn serve_door<D: Door, K: Keeper + Drop, C: Clock, L: Lots, W: Wire>(
+pub fn serve_door<R, D, K, C, L, W>(
+    rt: &R,
     alloc: Global,
     host: Host<K>,
     door: &mut D,
@@ -65,6 +67,13 @@ pub fn serve_door<D: Door, K: Keeper + Drop, C: Clock, L: Lots, W: Wire>(
     lots: &mut L,
     wire: &mut W,
 ) -> Hosted<K>
+where
+    R: Threads + Sync,
+    D: Door,
+    K: Keeper + Drop,
+    C: Clock,
+    L: Lots,
+    W: Wire,
     // Who came, what was said, heard and done for them, and how it ended.
     ensures hosts { Hosts
         (λ conn. conn_seen (D.C.peer conn) (D.C.left conn) (D.C.written conn) (D.C.Source.faults conn)
@@ -86,13 +95,22 @@ pub fn serve_door<D: Door, K: Keeper + Drop, C: Clock, L: Lots, W: Wire>(
         wanted,
     } = host;
     match open_layout(alloc, keeper, &layout, clock) {
-        Ok(served) => serve_open(alloc, OpenHost { served, wanted }, door, clock, lots, wire),
+        Ok(served) => serve_open(
+            rt,
+            alloc,
+            OpenHost { served, wanted },
+            door,
+            clock,
+            lots,
+            wire,
+        ),
         Err(hosted) => hosted,
     }
 }
 
 // Serves the connections on the farm that was opened, and closes it.
-fn serve_open<D: Door, K: Keeper + Drop, C: Clock, L: Lots, W: Wire>(
+fn serve_open<R, D, K, C, L, W>(
+    rt: &R,
     alloc: Global,
     host: OpenHost<K, SlotCache<Page>>,
     door: &mut D,
@@ -100,6 +118,13 @@ fn serve_open<D: Door, K: Keeper + Drop, C: Clock, L: Lots, W: Wire>(
     lots: &mut L,
     wire: &mut W,
 ) -> Hosted<K>
+where
+    R: Threads + Sync,
+    D: Door,
+    K: Keeper + Drop,
+    C: Clock,
+    L: Lots,
+    W: Wire,
     requires whole { IsWhole host.served.farm }
     requires free { open_at host.served.farm.requests 0 ≡ None }
     ensures visits { ClosesVisits
@@ -118,7 +143,7 @@ fn serve_open<D: Door, K: Keeper + Drop, C: Clock, L: Lots, W: Wire>(
     ensures counts { K.faults host.served.farm.keeper ≤ K.faults result.keeper }
 {
     let mut host = host;
-    let visited = serve_visits(alloc, &mut host, door, clock, lots, wire);
+    let visited = serve_visits(rt, alloc, &mut host, door, clock, lots, wire);
     let OpenHost { served, .. } = host;
     let (keeper, _, _) = served.farm.close();
     Hosted {

@@ -31,7 +31,7 @@ use Rattle.farm_core.specs.Runs.{Stands, Steps, turn_of}
 use Rattle.wiki_serve.specs.Turns.{TurnsBy, MakesTurns, IsMissed, FitsAsked, MakesAsked, MakesAnswer}
 use Rattle.wiki_serve.proofs.Steps.{turn, turns_joined, step_runs, shapes}
 
-closed_none : (entries : Entries) (id : ℕ) → point_at entries id ≡ Closed → open_at entries id ≡ None
+pub closed_none : (entries : Entries) (id : ℕ) → point_at entries id ≡ Closed → open_at entries id ≡ None
 closed_none entries id at = by (kept_at entries id) at
   where
     by : (o : Option OpenRequest) → point_of (option_and_then unless_taken o) ≡ Closed → option_and_then unless_taken o ≡ None
@@ -45,12 +45,12 @@ closed_none entries id at = by (kept_at entries id) at
     by (Some point.Taken) e = refl
 
 -- the answer ends the request
-last_one : (said : Answer) (More : Type 0) → is_miss said ≡ false → GoesOn (not (is_miss said)) [] More
+pub last_one : (said : Answer) (More : Type 0) → is_miss said ≡ false → GoesOn (not (is_miss said)) [] More
 last_one said More e = subst (λ b. GoesOn (not b) [] More) (sym e) refl
 
 -- What ends a request is no miss, and a view is never answered that an edit is saved.
 
-opened_said : (said : Option Answer) (a : Answer) (old new : Entries) (id : ℕ) (first : Point) → said ≡ Some a → OpensRequest id first said old new → (a ≡ model.NoMemory) × (new ≡ old)
+pub opened_said : (said : Option Answer) (a : Answer) (old new : Entries) (id : ℕ) (first : Point) → said ≡ Some a → OpensRequest id first said old new → (a ≡ model.NoMemory) × (new ≡ old)
 opened_said said a old new id first is o = by o.refused
   where
     by : (said ≡ None) ⊎ ((said ≡ Some model.NoMemory) × (new ≡ old)) → (a ≡ model.NoMemory) × (new ≡ old)
@@ -105,7 +105,7 @@ missed : (said : Option Answer) → IsMissed said → (why : Cause) × (said ≡
 missed (Some (model.Miss why)) m = (why, refl)
 missed _ m = absurd m
 
-waited : (p : Point) → (p ≡ WaitedView) ⊎ ((true ≡ false) × (p ≡ ArrivedView)) → p ≡ WaitedView
+pub waited : (p : Point) → (p ≡ WaitedView) ⊎ ((true ≡ false) × (p ≡ ArrivedView)) → p ≡ WaitedView
 waited p (inl e) = e
 waited p (inr (never, e)) = let none : ⊥ = cc in absurd none
 
@@ -116,10 +116,10 @@ module _ {K S : Type 0} (content : K → Option (List Entry)) (faults : K → �
     pub shape : SameShape old new
     pub counts : faults old.keeper ≤ faults new.keeper
 
-  chain_one : (old new : FarmParts K S) (t : Turn) (Moves : (old new : Entries) → Type 0) → Steps content faults cache_of old new t Moves → Chain old new (t ∷ [])
+  pub chain_one : (old new : FarmParts K S) (t : Turn) (Moves : (old new : Entries) → Type 0) → Steps content faults cache_of old new t Moves → Chain old new (t ∷ [])
   chain_one old new t Moves s = record { runs = step_runs content faults cache_of old new t Moves s; shape = s.shape; counts = s.counts }
 
-  chain_next : (old mid new : FarmParts K S) (xs : List Turn) (t : Turn) (Moves : (old new : Entries) → Type 0) → Chain old mid xs → Steps content faults cache_of mid new t Moves → Chain old new (xs ++ t ∷ [])
+  pub chain_next : (old mid new : FarmParts K S) (xs : List Turn) (t : Turn) (Moves : (old new : Entries) → Type 0) → Chain old mid xs → Steps content faults cache_of mid new t Moves → Chain old new (xs ++ t ∷ [])
   chain_next old mid new xs t Moves a s = record {
     runs = turns_joined (Stands content faults cache_of old) (Stands content faults cache_of mid) (Stands content faults cache_of new) xs (t ∷ []) a.runs (step_runs content faults cache_of mid new t Moves s);
     shape = shapes old mid new a.shape s.shape;
@@ -205,13 +205,13 @@ module _ {K S : Type 0} (content : K → Option (List Entry)) (faults : K → �
     pub arrives : Steps content faults cache_of f0 f1 (turn at (Step.Arrive 0 (world.AskedView (view_of ask))) None) (OpensRequest 0 ArrivedView None)
     pub waits : Steps content faults cache_of f1 f2 (turn at (Step.Wait 0 true) None) (MovesOn 0 ArrivedView (WaitsAt true) None)
 
-  waits_on : (f0 f1 f2 : FarmParts K S) (at : Readings) (ask : ViewAsk) → ViewWaits f0 f1 f2 at ask → Chain f0 f2 (turn at (Step.Arrive 0 (world.AskedView (view_of ask))) None ∷ turn at (Step.Wait 0 true) None ∷ [])
+  pub waits_on : (f0 f1 f2 : FarmParts K S) (at : Readings) (ask : ViewAsk) → ViewWaits f0 f1 f2 at ask → Chain f0 f2 (turn at (Step.Arrive 0 (world.AskedView (view_of ask))) None ∷ turn at (Step.Wait 0 true) None ∷ [])
   waits_on f0 f1 f2 at ask w =
       let t1 : Turn = turn at (Step.Arrive 0 (world.AskedView (view_of ask))) None in
       let t2 : Turn = turn at (Step.Wait 0 true) None in
       chain_next f0 f1 f2 (t1 ∷ []) t2 (MovesOn 0 ArrivedView (WaitsAt true) None) (chain_one f0 f1 t1 (OpensRequest 0 ArrivedView None) w.arrives) w.waits
 
-  waits_at : (f0 f1 f2 : FarmParts K S) (at : Readings) (ask : ViewAsk) → ViewWaits f0 f1 f2 at ask → point_at f2.requests 0 ≡ WaitedView
+  pub waits_at : (f0 f1 f2 : FarmParts K S) (at : Readings) (ask : ViewAsk) → ViewWaits f0 f1 f2 at ask → point_at f2.requests 0 ≡ WaitedView
   waits_at f0 f1 f2 at ask w = waited (point_at f2.requests 0) (w.waits.requests.moved (w.arrives.requests.opened refl))
 
   view_looks : (f0 f1 f2 f3 : FarmParts K S) (at : Readings) (ask : ViewAsk) (said : Option Answer) → ((a : Answer) → said ≡ Some a → is_miss a ≡ false) → ViewWaits f0 f1 f2 at ask

@@ -27,14 +27,27 @@ use Rattle.farm_steps.specs.Moments.{moment_of, moments_at}
 use Rattle.farm_core.specs.FarmParts.{FarmParts, SameShape}
 use Rattle.farm_core.specs.Agreement.{Agrees}
 use Rattle.farm_core.specs.Runs.{Stands}
-use Rattle.wiki_serve.specs.Exchanges.{Outcome, Answered, Unserved, Service, GivesAll, with_messages}
+use Rattle.wiki_serve.specs.Exchanges.{Outcome, Answered, Service, GivesAll, with_messages}
 use Rattle.wiki_serve.specs.Callers.{Desk, region_of, moment_for}
 use Rattle.wiki_serve.specs.Services.{Held, numbers_from, issued, IsMessage, AreMessages, Sends, DoesCall, DoesOne}
-use Rattle.wiki_serve.specs.Turns.{StandsSent, unsent_of}
+use Rattle.wiki_serve.specs.Turns.{MakesTurns, StandsSent, unsent_of}
 use Rattle.wiki_serve.specs.Housework.{WireSeen, IsRow, AreRows, DoesHousework, ServesAsked}
 use Rattle.wiki_serve.specs.Reactions.{OutsideSeen, CalledFor}
 use Rattle.wiki_serve.proofs.OneMore.{numbers_more}
 use Rattle.wiki_serve.proofs.Steps.{shapes}
+
+-- what was done, by its parts
+abbrev pub service_with : (at : Readings) (words : List ℕ) (sent : List Taken) (halted : Bool) (taken : List Taken) (emptied : Bool) (turns : List Turn) → Outcome → Service
+service_with at words sent halted taken emptied turns outcome = record {
+  at = at;
+  words = words;
+  sent = sent;
+  halted = halted;
+  taken = taken;
+  emptied = emptied;
+  turns = turns;
+  outcome = outcome;
+}
 
 -- Messages of the ledger are those of the world.
 
@@ -116,14 +129,14 @@ module _ {K S : Type 0} (content : K → Option (List Entry)) (faults : K → �
       numbers_long k zero = refl
       numbers_long k (suc c) = ap suc (numbers_long (k + 1) c)
 
-  -- a page or an edit
-  pub asked_called : (desk : Desk) (old new : FarmParts K S) (sent_old sent_new : ℕ) (at : Readings) (lots lots_now : Option (Series ℕ)) (before now : WireSeen) (request : Request) (words : List ℕ) (asked : Asked) (title : Title) (answer : Answer)
-      → desk.pace ≡ old.plan.pace → GivesAll lots words lots_now → ServesAsked content faults cache_of old new sent_old sent_new at before now asked answer
-      → ((service : Service) (v w : World) → service.at ≡ at → service.words ≡ words → Agrees content faults cache_of old v → ServesOne service.at desk.pace service.taken asked v service.turns w
-      → (last_reply service.turns ≡ Some (One (Some answer))) → service.outcome ≡ Answered title answer → DoesCall desk request request.call service v w)
-      → CalledFor content faults cache_of desk old new sent_old sent_new at (record { lots = lots; wire = before.carried; refused = before.refused; empty = before.empty }) (record { lots = lots_now; wire = now.carried; refused = now.refused; empty = now.empty }) request (Answered title answer)
-  asked_called desk old new sent_old sent_new at lots lots_now before now request words asked title answer pace gives serves does = record {
-    service = service;
+  -- a call with its housekeeping and its own turns
+  pub called_for : (desk : Desk) (old mid new : FarmParts K S) (sent_old sent_new : ℕ) (at : Readings) (lots lots_now : Option (Series ℕ)) (before now : WireSeen) (request : Request) (words : List ℕ) (own : List Turn) (outcome : Outcome)
+      → desk.pace ≡ old.plan.pace → GivesAll lots words lots_now → (work : DoesHousework content faults cache_of old mid sent_old sent_new at before now) → MakesTurns content faults cache_of mid new own
+      → ((start : World) (earlier : List Turn) (v m w : World) → Agrees content faults cache_of old v → Housekeeps at desk.pace work.taken v work.turns m → Stands content faults cache_of mid start earlier m → GoesBy m own w
+      → DoesCall desk request request.call (service_with at words work.sent work.halted work.taken work.emptied (work.turns ++ own) outcome) v w)
+      → CalledFor content faults cache_of desk old new sent_old sent_new at (record { lots = lots; wire = before.carried; refused = before.refused; empty = before.empty }) (record { lots = lots_now; wire = now.carried; refused = now.refused; empty = now.empty }) request outcome
+  called_for desk old mid new sent_old sent_new at lots lots_now before now request words own outcome pace gives work made does = record {
+    service = service_with at words work.sent work.halted work.taken work.emptied (work.turns ++ own) outcome;
     outcome_is = refl;
     at_is = refl;
     lots = gives;
@@ -131,38 +144,20 @@ module _ {K S : Type 0} (content : K → Option (List Entry)) (faults : K → �
     refused = work.refused;
     empty = work.empty;
     goes_on = goes_on;
-    closed = λ none. own.made.closed (work.closed none);
-    shape = shapes old serves.middle new work.shape own.made.shape;
-    counts = let x = work.counts in let y = own.made.counts in omega (arith, x, y);
+    closed = λ none. made.closed (work.closed none);
+    shape = shapes old mid new work.shape made.shape;
+    counts = let x = work.counts in let y = made.counts in omega (arith, x, y);
   }
     where
-      work : DoesHousework content faults cache_of old serves.middle sent_old sent_new at before now
-      work = serves.housework
-
-      own : Rattle.wiki_serve.specs.Turns.MakesAsked content faults cache_of serves.middle new at asked answer
-      own = serves.own
-
-      service : Service
-      service = record {
-        at = at;
-        words = words;
-        sent = serves.housework.sent;
-        halted = serves.housework.halted;
-        taken = serves.housework.taken;
-        emptied = serves.housework.emptied;
-        turns = serves.housework.turns ++ serves.own.turns;
-        outcome = Answered title answer;
-      }
-
       goes_on : (start : World) (turns : List Turn) (v : World) → StandsSent content faults cache_of old sent_old start turns v
-          → (w : World) × StandsSent content faults cache_of new sent_new start (reverse (serves.housework.turns ++ serves.own.turns) ++ turns) w
-          × DoesOne desk request service (record { world = v; unsent = unsent_of old sent_old }) (record { world = w; unsent = unsent_of new sent_new })
+          → (w : World) × StandsSent content faults cache_of new sent_new start (reverse (work.turns ++ own) ++ turns) w
+          × DoesOne desk request (service_with at words work.sent work.halted work.taken work.emptied (work.turns ++ own) outcome) (record { world = v; unsent = unsent_of old sent_old }) (record { world = w; unsent = unsent_of new sent_new })
       goes_on start turns v stood =
           let (m, middle, keeps) = work.keeps start turns v stood.stands in
-          let (w, stands, goes) = own.made.runs start (reverse work.turns ++ turns) m middle in
-          let order : reverse own.turns ++ (reverse work.turns ++ turns) ≡ reverse (work.turns ++ own.turns) ++ turns = sym (ap (λ l. l ++ turns) (reverse-append work.turns own.turns) ∙ append_assoc (reverse own.turns) (reverse work.turns) turns) in
+          let (w, stands, goes) = made.runs start (reverse work.turns ++ turns) m middle in
+          let order : reverse own ++ (reverse work.turns ++ turns) ≡ reverse (work.turns ++ own) ++ turns = sym (ap (λ l. l ++ turns) (reverse-append work.turns own) ∙ append_assoc (reverse own) (reverse work.turns) turns) in
           let one = goes_house at old.plan.pace work.taken v work.turns m keeps in
-          let two = goes-issue own.turns m w goes in
+          let two = goes-issue own m w goes in
           let grow : length v.messages ≤ length w.messages = omega (arith, one, two) in
           let long = rows_long old v stood.stands.agrees in
           let within = stood.within in
@@ -170,54 +165,21 @@ module _ {K S : Type 0} (content : K → Option (List Entry)) (faults : K → �
           let kept = subst (λ (p : ℕ). Housekeeps at p work.taken v work.turns m) (sym pace) keeps in (
             w,
             record { stands = subst (λ (l : List Turn). Stands content faults cache_of new start l w) order stands; within = omega (arith, inside, long, grow) },
-            one_done desk old new sent_old sent_new request service v w work.later work.within work.are work.all work.left work.few work.full within stood.stands.agrees stands.agrees grow
-                (does service v w refl refl stood.stands.agrees
-                (record { before = work.turns; own = own.turns; middle = m; housekeeping = kept; makes = own.makes; goes = goes; all = refl })
-                (last_after work.turns own.turns (One (Some answer)) own.last) refl),
+            one_done desk old new sent_old sent_new request (service_with at words work.sent work.halted work.taken work.emptied (work.turns ++ own) outcome) v w work.later work.within work.are work.all work.left work.few work.full within stood.stands.agrees stands.agrees grow
+                (does start (reverse work.turns ++ turns) v m w stood.stands.agrees kept middle goes),
           )
 
-  -- a call that gets its housekeeping alone
-  pub kept_called : (desk : Desk) (old new : FarmParts K S) (sent_old sent_new : ℕ) (at : Readings) (lots : Option (Series ℕ)) (before now : WireSeen) (request : Request)
-      → desk.pace ≡ old.plan.pace → DoesHousework content faults cache_of old new sent_old sent_new at before now
-      → ((service : Service) (v w : World) → service.words ≡ [] → Housekeeps service.at desk.pace service.taken v service.turns w → service.outcome ≡ Unserved → DoesCall desk request request.call service v w)
-      → CalledFor content faults cache_of desk old new sent_old sent_new at (record { lots = lots; wire = before.carried; refused = before.refused; empty = before.empty }) (record { lots = lots; wire = now.carried; refused = now.refused; empty = now.empty }) request Unserved
-  kept_called desk old new sent_old sent_new at lots before now request pace work does = record {
-    service = service;
-    outcome_is = refl;
-    at_is = refl;
-    lots = refl;
-    wire = work.carried;
-    refused = work.refused;
-    empty = work.empty;
-    goes_on = goes_on;
-    closed = work.closed;
-    shape = work.shape;
-    counts = work.counts;
-  }
-    where
-      service : Service
-      service = record {
-        at = at;
-        words = [];
-        sent = work.sent;
-        halted = work.halted;
-        taken = work.taken;
-        emptied = work.emptied;
-        turns = work.turns;
-        outcome = Unserved;
-      }
-
-      goes_on : (start : World) (turns : List Turn) (v : World) → StandsSent content faults cache_of old sent_old start turns v
-          → (w : World) × StandsSent content faults cache_of new sent_new start (reverse work.turns ++ turns) w
-          × DoesOne desk request service (record { world = v; unsent = unsent_of old sent_old }) (record { world = w; unsent = unsent_of new sent_new })
-      goes_on start turns v stood =
-          let (w, stands, keeps) = work.keeps start turns v stood.stands in
-          let grow = goes_house at old.plan.pace work.taken v work.turns w keeps in
-          let long = rows_long old v stood.stands.agrees in
-          let within = stood.within in
-          let inside = work.within (omega (arith, long, within)) in (
-            w,
-            record { stands = stands; within = omega (arith, inside, long, grow) },
-            one_done desk old new sent_old sent_new request service v w work.later work.within work.are work.all work.left work.few work.full within stood.stands.agrees stands.agrees grow
-                (does service v w refl (subst (λ (p : ℕ). Housekeeps at p work.taken v work.turns w) (sym pace) keeps) refl),
-          )
+  -- a page or an edit
+  pub asked_called : (desk : Desk) (old new : FarmParts K S) (sent_old sent_new : ℕ) (at : Readings) (lots lots_now : Option (Series ℕ)) (before now : WireSeen) (request : Request) (words : List ℕ) (asked : Asked) (title : Title) (answer : Answer)
+      → desk.pace ≡ old.plan.pace → GivesAll lots words lots_now → ServesAsked content faults cache_of old new sent_old sent_new at before now asked answer
+      → ((service : Service) (v w : World) → service.at ≡ at → service.words ≡ words → Agrees content faults cache_of old v → ServesOne service.at desk.pace service.taken asked v service.turns w
+      → (last_reply service.turns ≡ Some (One (Some answer))) → service.outcome ≡ Answered title answer → DoesCall desk request request.call service v w)
+      → CalledFor content faults cache_of desk old new sent_old sent_new at (record { lots = lots; wire = before.carried; refused = before.refused; empty = before.empty }) (record { lots = lots_now; wire = now.carried; refused = now.refused; empty = now.empty }) request (Answered title answer)
+  asked_called desk old new sent_old sent_new at lots lots_now before now request words asked title answer pace gives serves does =
+      let work = serves.housework in
+      let own = serves.own in
+      called_for desk old serves.middle new sent_old sent_new at lots lots_now before now request words own.turns (Answered title answer) pace gives work own.made
+      (λ start earlier v m w agrees kept middle goes.
+      does (service_with at words work.sent work.halted work.taken work.emptied (work.turns ++ own.turns) (Answered title answer)) v w refl refl agrees
+      (record { before = work.turns; own = own.turns; middle = m; housekeeping = kept; makes = own.makes; goes = goes; all = refl })
+      (last_after work.turns own.turns (One (Some answer)) own.last) refl)

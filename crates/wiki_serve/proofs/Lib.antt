@@ -8,3 +8,5 @@ pub mod Looping
 pub mod CallKinds
 pub mod Writing
 pub mod Replying
+pub mod Batching
+pub mod Drawing

@@ -12,6 +12,7 @@ use Rattle.http_reply.specs.Reply.{Reply, answer_bytes}
 use Rattle.http_reply.specs.AsModel.{refusal_of}
 use Rattle.http_reply.specs.declared.refusal.Refusal.{Refusal}
 use Rattle.region_state.specs.AsModel.{answer_of}
+use Rattle.region_round.specs.AsModel.{answers_of}
 use Rattle.region_state.specs.declared.plan.FarmPlan.{FarmPlan}
 use Rattle.farm_base.specs.Series.{Gives}
 use Rattle.farm_core.specs.FarmParts.{FarmParts}
@@ -23,9 +24,9 @@ use Rattle.wiki_serve.specs.declared.read_arrival.Arrival.TheVariants as arrival
 use Rattle.wiki_serve.specs.declared.serve_arrival.Answered.{Answered}
 use Rattle.wiki_serve.specs.declared.serve_arrival.Reaction.{Reaction}
 use Rattle.wiki_serve.specs.declared.serve_arrival.Reaction.TheVariants as reaction
-use Rattle.wiki_serve.specs.Replies.{location_of, answer_reply, unserved_reply}
+use Rattle.wiki_serve.specs.Replies.{location_of, answer_reply, listed_reply}
 use Rattle.wiki_serve.specs.Exchanges as exchange
-use Rattle.wiki_serve.specs.Exchanges.{Outcome, Unserved, Exchange, Refusing, Serving, Service, Heard, AreHeard, services, incoming_of, closes, response, service_reply}
+use Rattle.wiki_serve.specs.Exchanges.{Outcome, Exchange, Refusing, Serving, Service, Heard, AreHeard, services, incoming_of, closes, response, service_reply}
 use Rattle.wiki_serve.specs.Callers.{Desk}
 use Rattle.wiki_serve.specs.Connections.{Conn, IsServed}
 use Rattle.wiki_serve.specs.Served.{Seen, seen_at, Waits, ReadsFrom, GoesOnBy, MayServeOn, HasOne, HearsOne}
@@ -192,12 +193,12 @@ module _ {K S : Type 0} (content : K → Option (List Entry)) (faults : K → �
           (served_had (desk_of mid.peer old) old new sent_old sent_new before now (request_shown visit.request) (exchange.Answered answers.title (answer_of answered.answer)) (reaction.Answered answered) answers.does (sym answers.close)
           (λ n. answered_bytes answers.title answered (request_shown visit.request) answers.does.called.service n answers.does.called.outcome_is answers.of_title answers.head answers.close))
           responds
-      visited visit (reaction.Unserved head close) may reads (head_is, close_is, does) responds =
-          responded (desk_of mid.peer old) a (seen_at b.conn b.kept before (unsent_of old sent_old)) mid conn kept now (unsent_of new sent_new) Stood (StandsSent content faults cache_of old sent_old) (StandsSent content faults cache_of new sent_new) count (Ready (request_shown visit.request)) (reaction.Unserved head close) result may reads
-          (served_had (desk_of mid.peer old) old new sent_old sent_new before now (request_shown visit.request) Unserved (reaction.Unserved head close) does (sym close_is)
+      visited visit (reaction.Listed listed) may reads (head_is, close_is, does) responds =
+          responded (desk_of mid.peer old) a (seen_at b.conn b.kept before (unsent_of old sent_old)) mid conn kept now (unsent_of new sent_new) Stood (StandsSent content faults cache_of old sent_old) (StandsSent content faults cache_of new sent_new) count (Ready (request_shown visit.request)) (reaction.Listed listed) result may reads
+          (served_had (desk_of mid.peer old) old new sent_old sent_new before now (request_shown visit.request) (exchange.Listed (answers_of listed.answers.items)) (reaction.Listed listed) does (sym close_is)
           (λ n. ap (λ (o : Outcome). answer_bytes (service_reply o visit.request.head (visit.request.close || (n == requests_max)))) does.called.outcome_is
-          ∙ ap (λ (h : Bool). answer_bytes (unserved_reply h (visit.request.close || (n == requests_max)))) (sym head_is)
-          ∙ ap (λ (c : Bool). answer_bytes (unserved_reply head (c || (n == requests_max)))) (sym close_is)))
+          ∙ ap (λ (h : Bool). answer_bytes (listed_reply (answers_of listed.answers.items) h (visit.request.close || (n == requests_max)))) (sym head_is)
+          ∙ ap (λ (c : Bool). answer_bytes (listed_reply (answers_of listed.answers.items) listed.head (c || (n == requests_max)))) (sym close_is)))
           responds
 
       by : (arrived : Arrival) → MayServeOn (desk_of mid.peer old) a (seen_at b.conn b.kept before (unsent_of old sent_old)) Stood (StandsSent content faults cache_of old sent_old) count

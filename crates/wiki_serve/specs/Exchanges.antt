@@ -1,5 +1,5 @@
 -- The exchanges of one connection: each request with what was done for it, and its response.
-use Rattle.std.specs.Prelude.{ℕ, zero, suc, ◌≡◌, ◌+◌, ◌==◌, ◌||◌, Bool, if◌then◌else◌, List, [], ◌∷◌, ◌++◌, map, flat_map, Option, option_map}
+use Rattle.std.specs.Prelude.{ℕ, zero, suc, ◌≡◌, ◌+◌, ◌==◌, ◌||◌, Bool, if◌then◌else◌, List, [], ◌∷◌, ◌++◌, map, flat_map, Option, Some, option_map}
 use Rattle.farm_base.specs.Causes.{counted}
 use Rattle.farm_base.specs.Series.{Series, Gives}
 use Rattle.wiki_model.specs.declared.Readings.{Readings}
@@ -7,18 +7,20 @@ use Rattle.wiki_model.specs.Bytes.{Bytes}
 use Rattle.wiki_model.specs.Titles.{Title}
 use Rattle.wiki_model.specs.Limits.{requests_max}
 use Rattle.wiki_model.specs.Answers.{Answer}
+use Rattle.wiki_model.specs.Answered.{last_reply}
 use Rattle.wiki_model.specs.Runs.{Turn}
+use Rattle.wiki_model.specs.Runs.Reply.{One}
 use Rattle.wiki_model.specs.Serving.{Taken}
 use Rattle.wiki_model.specs.Asking.{Request, Refusal}
 use Rattle.purge_relay.specs.Carried.{CarriedMessage, Carried}
 use Rattle.http_desk.specs.Incoming.{Incoming, Ready, Refused}
 use Rattle.http_reply.specs.Reply.{Reply, answer_bytes, refusal_reply}
-use Rattle.wiki_serve.specs.Replies.{location_of, answer_reply, unserved_reply}
+use Rattle.wiki_serve.specs.Replies.{location_of, answer_reply, listed_reply}
 
--- what a request is answered: one answer, about this title; or that it is not served
+-- what a request is answered: one answer, about this title; or the answers of a batch, in the order of its titles
 pub data Outcome : Type 0 where
   Answered : Title → Answer → Outcome
-  Unserved : Outcome
+  Listed : List Answer → Outcome
 
 -- What was done for a request.
 pub record Service : Type 0 where
@@ -35,6 +37,11 @@ pub record Service : Type 0 where
   -- the turns of the farm, the first of them first
   pub turns : List Turn
   pub outcome : Outcome
+
+-- one answer ends the request
+abbrev pub IsAnswered : Title → List Turn → Outcome → Type 0
+IsAnswered title turns outcome =
+    (answer : Answer) × (last_reply turns ≡ Some (One (Some answer))) × (outcome ≡ Answered title answer)
 
 -- a request that was refused, or one for which something was done
 pub data Exchange (A : Type 0) : Type 0 where
@@ -63,7 +70,7 @@ closes (Serving request service) = request.close
 
 abbrev pub service_reply : Outcome → (head close : Bool) → Reply
 service_reply (Answered title answer) head close = answer_reply (location_of title) answer head close
-service_reply Unserved head close = unserved_reply head close
+service_reply (Listed answers) head close = listed_reply answers head close
 
 abbrev pub reply_of : Exchange Service → (close : Bool) → Reply
 reply_of (Refusing refusal) close = refusal_reply refusal close

@@ -176,11 +176,3 @@ pub record ServesAsked {K S : Type 0} (content : K → Option (List Entry)) (fau
   pub middle : FarmParts K S
   pub housework : DoesHousework content faults cache_of old middle sent_old sent_new at before now
   pub own : MakesAsked content faults cache_of middle new at asked answer
-
--- the same, as far as there is an answer: there is one
-abbrev pub ServesAnswer : {K S : Type 0} → (K → Option (List Entry)) → (K → ℕ) → (S → CacheMap Bytes)
-    → (old new : FarmParts K S) → (sent_old sent_new : ℕ) → Readings → (before now : WireSeen) → Asked
-    → Option Answer → Type 0
-ServesAnswer content faults cache_of old new sent_old sent_new at before now asked None = ⊥
-ServesAnswer content faults cache_of old new sent_old sent_new at before now asked (Some answer) =
-    ServesAsked content faults cache_of old new sent_old sent_new at before now asked answer

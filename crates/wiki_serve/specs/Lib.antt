@@ -1,10 +1,12 @@
 pub mod Replies
 pub mod Exchanges
 pub mod Callers
+pub mod Batches
 pub mod Services
 pub mod Connections
 pub mod Served
 pub mod Turns
 pub mod Housework
 pub mod AsModel
+pub mod BatchSteps
 pub mod Reactions

@@ -10,7 +10,7 @@ use Rattle.wiki_model.specs.Cache.{CacheMap}
 use Rattle.wiki_model.specs.World.{World}
 use Rattle.wiki_model.specs.Steps.{Rose}
 use Rattle.wiki_model.specs.Runs.{Turn}
-use Rattle.wiki_model.specs.Asking.{Request, Call, PageCall, EditCall}
+use Rattle.wiki_model.specs.Asking.{Request, Call, PageCall, EditCall, BatchCall}
 use Rattle.wiki_model.specs.Answers.{Answer, EditSaved}
 use Rattle.farm_base.specs.Series.{Series, Gives}
 use Rattle.purge_relay.specs.Carried.{Carried}
@@ -19,6 +19,7 @@ use Rattle.http_desk.specs.AsModel.{request_shown}
 use Rattle.http_reply.specs.Reply.{answer_bytes, refusal_reply}
 use Rattle.http_reply.specs.AsModel.{refusal_of}
 use Rattle.region_state.specs.AsModel.{answer_of}
+use Rattle.region_round.specs.AsModel.{answers_of}
 use Rattle.wiki_model.specs.Report.{page_of}
 use Rattle.farm_steps.specs.RequestMap.{open_at}
 use Rattle.farm_core.specs.FarmParts.{FarmParts, SameShape}
@@ -30,9 +31,12 @@ use Rattle.wiki_serve.specs.declared.read_arrival.Arrival.TheVariants as arrival
 use Rattle.wiki_serve.specs.declared.serve_arrival.Answered.{Answered}
 use Rattle.wiki_serve.specs.declared.serve_arrival.Reaction.{Reaction}
 use Rattle.wiki_serve.specs.declared.serve_arrival.Reaction.TheVariants as reaction
-use Rattle.wiki_serve.specs.Replies.{location_of, answer_reply, unserved_reply}
+use Rattle.wiki_serve.specs.declared.serve_arrival.Listed.{Listed}
+use Rattle.wiki_serve.specs.declared.serve_batch.Said.{Said}
+use Rattle.wiki_serve.specs.declared.serve_batch.Said.TheVariants as said
+use Rattle.wiki_serve.specs.Replies.{location_of, answer_reply, batch_body, listed_reply}
 use Rattle.wiki_serve.specs.Exchanges as exchange
-use Rattle.wiki_serve.specs.Exchanges.{Outcome, Unserved, Service, Heard, GivesAll, with_messages}
+use Rattle.wiki_serve.specs.Exchanges.{Outcome, Service, Heard, GivesAll, with_messages}
 use Rattle.wiki_serve.specs.Housework.{counted_if}
 use Rattle.wiki_serve.specs.Callers.{Desk, stranger_of}
 use Rattle.wiki_serve.specs.Services.{DoesOne}
@@ -112,23 +116,26 @@ pub record DoesFor {K S : Type 0} (content : K → Option (List Entry)) (faults 
   pub called : CalledFor content faults cache_of desk old new sent_old sent_new at (outside_of before) (outside_of now)
       request outcome
 
--- The answer is one to this call, about this title; a page is never answered that an edit is saved.
+-- The answer is one to this call, about this title; a page or a batch is never answered that an edit is saved.
 abbrev pub IsAnswerTo : Call → Title → Answer → Type 0
 IsAnswerTo (PageCall asked) title (EditSaved saved) = ⊥
 IsAnswerTo (PageCall asked) title answer = title ≡ asked
+IsAnswerTo (BatchCall titles) title (EditSaved saved) = ⊥
+IsAnswerTo (BatchCall titles) title answer = Unit {0}
 IsAnswerTo (EditCall asked base token text) title answer = title ≡ asked
 IsAnswerTo call title answer = ⊥
 
--- what a call came to: it was answered, or is not served
+-- what a call came to: one answer, or those of a batch
 abbrev pub DoesCallFor : {K S : Type 0} → (K → Option (List Entry)) → (K → ℕ) → (S → CacheMap Bytes) → Desk
     → (old new : FarmParts K S) → (sent_old sent_new : ℕ) → Readings → (before now : OutsideSeen) → Request
-    → Option Answer → Type 0
-DoesCallFor content faults cache_of desk old new sent_old sent_new at before now request None =
-    CalledFor content faults cache_of desk old new sent_old sent_new at before now request Unserved
-DoesCallFor content faults cache_of desk old new sent_old sent_new at before now request (Some answer) =
-    (title : Title) × IsAnswerTo request.call title answer
+    → Said → Type 0
+DoesCallFor content faults cache_of desk old new sent_old sent_new at before now request (said.One answer) =
+    (title : Title) × IsAnswerTo request.call title (answer_of answer)
     × CalledFor content faults cache_of desk old new sent_old sent_new at before now request
-    (exchange.Answered title answer)
+    (exchange.Answered title (answer_of answer))
+DoesCallFor content faults cache_of desk old new sent_old sent_new at before now request (said.Many answers) =
+    CalledFor content faults cache_of desk old new sent_old sent_new at before now request
+    (exchange.Listed (answers_of answers.items))
 
 -- the text is where the edited page is
 abbrev pub IsLocationFor : Call → (text : Bytes) → Type 0
@@ -162,9 +169,10 @@ ReactsTo content faults cache_of desk old new sent_old sent_new before now visit
     DoesNothing old new sent_old sent_new before now
 ReactsTo content faults cache_of desk old new sent_old sent_new before now visit (reaction.Answered answered) =
     AnswersVisit content faults cache_of desk old new sent_old sent_new before now visit answered
-ReactsTo content faults cache_of desk old new sent_old sent_new before now visit (reaction.Unserved head close) =
-    (head ≡ visit.request.head) × (close ≡ visit.request.close)
-    × DoesFor content faults cache_of desk old new sent_old sent_new before now (request_shown visit.request) Unserved
+ReactsTo content faults cache_of desk old new sent_old sent_new before now visit (reaction.Listed listed) =
+    (listed.head ≡ visit.request.head) × (listed.close ≡ visit.request.close)
+    × DoesFor content faults cache_of desk old new sent_old sent_new before now (request_shown visit.request)
+    (exchange.Listed (answers_of listed.answers.items))
 ReactsTo content faults cache_of desk old new sent_old sent_new before now visit _ = ⊥
 
 -- what was done for what was read, on a connection with this peer
@@ -190,7 +198,7 @@ abbrev pub reaction_closes : Reaction → Bool
 reaction_closes (reaction.Ended end) = true
 reaction_closes (reaction.Refused refusal) = refusal.close
 reaction_closes (reaction.Answered answered) = answered.close
-reaction_closes (reaction.Unserved head close) = close
+reaction_closes (reaction.Listed listed) = listed.close
 
 -- the bytes of the response
 abbrev pub reaction_bytes : Reaction → (close : Bool) → Bytes
@@ -198,11 +206,18 @@ reaction_bytes (reaction.Ended end) close = []
 reaction_bytes (reaction.Refused refusal) close = answer_bytes (refusal_reply (refusal_of refusal) close)
 reaction_bytes (reaction.Answered answered) close =
     answer_bytes (answer_reply (string_bytes answered.location) (answer_of answered.answer) answered.head close)
-reaction_bytes (reaction.Unserved head c) close = answer_bytes (unserved_reply head close)
+reaction_bytes (reaction.Listed listed) close =
+    answer_bytes (listed_reply (answers_of listed.answers.items) listed.head close)
 
--- the bytes of the page that is sent
+-- the body of a batch's response
+abbrev pub listed_body : Reaction → Bytes
+listed_body (reaction.Listed listed) = batch_body 1 (answers_of listed.answers.items)
+listed_body _ = []
+
+-- the bytes of the page or of the batch's body that are sent
 abbrev pub page_part : Reaction → Bytes
 page_part (reaction.Answered answered) = if answered.head then [] else page_of (answer_of answered.answer)
+page_part (reaction.Listed listed) = if listed.head then [] else batch_body 1 (answers_of listed.answers.items)
 page_part _ = []
 
 -- how a connection ends after its nth response was written whole

@@ -1,11 +1,11 @@
 -- The response that each answer of the wiki gets.
-use Rattle.std.specs.Prelude.{ℕ, Bool, true, false, if◌then◌else◌, List, [], ◌∷◌, ◌++◌, map, codes, decimal}
+use Rattle.std.specs.Prelude.{ℕ, ◌+◌, Bool, true, false, if◌then◌else◌, List, [], ◌∷◌, ◌++◌, map, codes, decimal}
 use Rattle.wiki_model.specs.Bytes.{Bytes}
 use Rattle.wiki_model.specs.Titles.{Title, url_of}
 use Rattle.wiki_model.specs.World.{Cookie}
 use Rattle.wiki_model.specs.Answers.{Answer, Saved}
 use Rattle.wiki_model.specs.Answers.Answer.{Page, EditSaved, NoPage, Conflict, TokenUsed, Lagging, StoreFault}
-use Rattle.wiki_model.specs.Report.{answer_text, origin_text}
+use Rattle.wiki_model.specs.Report.{answer_text, origin_text, report_line}
 use Rattle.wiki_model.specs.Cookies.{cookies_set}
 use Rattle.http_reply.specs.Reply.{Reply, text_line}
 
@@ -77,12 +77,16 @@ text_reply answer lines head close = record {
   close = close;
 }
 
--- a request that is read and not served
-abbrev pub unserved_reply : (head close : Bool) → Reply
-unserved_reply head close = record {
-  status = 501;
+-- the answers of a batch, numbered from n on: the line of each, and after it the page's bytes
+abbrev pub batch_body : (n : ℕ) → List Answer → Bytes
+batch_body n [] = []
+batch_body n (answer ∷ answers) = report_line n true answer ++ batch_body (n + 1) answers
+
+abbrev pub listed_reply : List Answer → (head close : Bool) → Reply
+listed_reply answers head close = record {
+  status = 200;
   html = false;
-  body = text_line (codes "batch");
+  body = batch_body 1 answers;
   lines = [];
   head = head;
   close = close;

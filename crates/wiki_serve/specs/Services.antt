@@ -1,17 +1,13 @@
 -- What is done for one request, and for all of a connection.
 use Rattle.std.specs.Prelude.{ℕ, zero, suc, ◌≡◌, ◌<◌, ◌+◌, ◌-◌, Bool, true, false, List, [], ◌∷◌, ◌++◌, length, Option, Some, option_map}
-use Rattle.wiki_model.specs.Titles.{Title}
 use Rattle.wiki_model.specs.Limits.{messages_max}
 use Rattle.wiki_model.specs.World.{World, message_at}
 use Rattle.wiki_model.specs.World.Asked.{AskedView, AskedEdit}
-use Rattle.wiki_model.specs.Answers.{Answer}
-use Rattle.wiki_model.specs.Answered.{last_reply}
-use Rattle.wiki_model.specs.Runs.{Turn, Reply}
-use Rattle.wiki_model.specs.Runs.Reply.{One}
-use Rattle.wiki_model.specs.Serving.{Taken, Housekeeps, ServesOne}
+use Rattle.wiki_model.specs.Serving.{Taken, ServesOne}
 use Rattle.wiki_model.specs.Asking.{Call, EditCall, PageCall, BatchCall, FeedCall, MessagesCall, Request}
-use Rattle.wiki_serve.specs.Exchanges.{Outcome, Answered, Unserved, Service, Exchange, Refusing, Serving}
+use Rattle.wiki_serve.specs.Exchanges.{IsAnswered, Service, Exchange, Refusing, Serving}
 use Rattle.wiki_serve.specs.Callers.{Desk, moment_for, view_for, edit_for}
+use Rattle.wiki_serve.specs.Batches.{DoesBatch}
 
 -- what a connection is served from: the world, and the numbers of the messages that were not sent
 pub record Held : Type 0 where
@@ -48,13 +44,7 @@ pub record Sends (v : World) (unsent : List ℕ) (service : Service) (left : Lis
 
 -- Calls
 
--- one answer ends the request
-abbrev pub IsAnswered : Title → List Turn → Outcome → Type 0
-IsAnswered title turns outcome =
-    (answer : Answer) × (last_reply turns ≡ Some (One (Some answer))) × (outcome ≡ Answered title answer)
-
--- What a call makes of the world, by the words that it draws and the messages that are taken. A batch gets its
--- housekeeping, and is not served yet. No other call is read.
+-- What a call makes of the world, by the words that it draws and the messages that are taken. No other call is read.
 abbrev pub DoesCall : Desk → Request → Call → Service → (v w : World) → Type 0
 DoesCall desk request (PageCall title) service v w =
     (word : ℕ) × (service.words ≡ word ∷ [])
@@ -66,9 +56,7 @@ DoesCall desk request (EditCall title base token text) service v w =
     × ServesOne service.at desk.pace service.taken
     (AskedEdit (edit_for desk (moment_for v service.at request) request title base token text)) v service.turns w
     × IsAnswered title service.turns service.outcome
-DoesCall desk request (BatchCall titles) service v w =
-    (service.words ≡ []) × Housekeeps service.at desk.pace service.taken v service.turns w
-    × (service.outcome ≡ Unserved)
+DoesCall desk request (BatchCall titles) service v w = DoesBatch desk request titles service v w
 DoesCall desk request (FeedCall from) service v w = ⊥
 DoesCall desk request (MessagesCall from) service v w = ⊥
 

@@ -7,22 +7,23 @@ ghost use Rattle.region_state.specs.declared.ask.Asked.TheVariants as asked;
 ghost use Rattle.farm_core.specs.FarmParts.{IsWhole};
 ghost use Rattle.farm_steps.specs.RequestMap.{open_at};
 ghost use Rattle.wiki_serve.specs.Turns.{MakesAnswer, IsMissed};
+ghost use Rattle.slot_cache.specs.AsModel.{map_of};
 
 use farm_base::Readings;
 use farm_core::{Answer, Asked, EditAsk, Farm, Page, ViewAsk};
 use revision_keeper::Keeper;
+use slot_cache::SlotCache;
 use std::alloc::Global;
-use wan_cache::RegionStore;
 
 /// A whole edit, up to its first answer.
-pub(crate) fn make_edit<K: Keeper, S: RegionStore<Page>>(
-    farm: &mut Farm<K, S>,
+pub(crate) fn make_edit<K: Keeper>(
+    farm: &mut Farm<K, SlotCache<Page>>,
     at: &Readings,
     ask: EditAsk,
 ) -> Option<Answer>
     requires whole { IsWhole farm.old }
     requires free { open_at farm.old.requests 0 ≡ None }
-    ensures { MakesAnswer K.content K.faults S.cache farm.old farm.new at.now
+    ensures { MakesAnswer K.content K.faults map_of farm.old farm.new at.now
         (AskedEdit (edit_of ask)) (option_map answer_of result) }
 {
     let opened = farm.arrive(*at, 0, of_edit(ask));
@@ -37,15 +38,15 @@ pub(crate) fn make_edit<K: Keeper, S: RegionStore<Page>>(
 }
 
 /// A whole view, up to its first answer that is no miss.
-pub(crate) fn make_view<K: Keeper, S: RegionStore<Page>>(
+pub(crate) fn make_view<K: Keeper>(
     alloc: Global,
-    farm: &mut Farm<K, S>,
+    farm: &mut Farm<K, SlotCache<Page>>,
     at: &Readings,
     ask: ViewAsk,
 ) -> Option<Answer>
     requires whole { IsWhole farm.old }
     requires free { open_at farm.old.requests 0 ≡ None }
-    ensures { MakesAnswer K.content K.faults S.cache farm.old farm.new at.now
+    ensures { MakesAnswer K.content K.faults map_of farm.old farm.new at.now
         (AskedView (view_of ask)) (option_map answer_of result) }
 {
     let opened = farm.arrive(*at, 0, of_view(ask));
@@ -82,7 +83,7 @@ fn of_edit(ask: EditAsk) -> Asked
     Asked::Edit(ask)
 }
 
-fn of_view(ask: ViewAsk) -> Asked
+pub(crate) fn of_view(ask: ViewAsk) -> Asked
     ensures { result ≡ asked.View ask }
 {
     Asked::View(ask)

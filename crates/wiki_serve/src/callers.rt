@@ -14,8 +14,8 @@ use farm_core::{Farm, Page};
 use farm_steps::{moment_of, moments_at};
 use http_desk::{Call, Request};
 use revision_keeper::Keeper;
+use slot_cache::SlotCache;
 use sticky_routes::{PosCookie, live, route};
-use wan_cache::RegionStore;
 use wiki_titles::ClientId;
 
 /// A request that was read, with the client that it has if no live cookie names one.
@@ -27,8 +27,8 @@ pub struct Visit {
 }
 
 /// The moment of the request's region after these readings.
-pub(crate) fn moment_for<K: Keeper, S: RegionStore<Page>>(
-    farm: &Farm<K, S>,
+pub(crate) fn moment_for<K: Keeper>(
+    farm: &Farm<K, SlotCache<Page>>,
     at: &Readings,
     request: &Request,
 ) -> Moment

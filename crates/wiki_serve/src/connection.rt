@@ -7,6 +7,7 @@ ghost use Rattle.wiki_serve.specs.Reactions.{Responds, desk_of};
 ghost use Rattle.wiki_serve.specs.AsModel.{end_of};
 ghost use Rattle.farm_core.specs.FarmParts.{IsWhole, SameShape};
 ghost use Rattle.farm_steps.specs.RequestMap.{open_at};
+ghost use Rattle.slot_cache.specs.AsModel.{map_of};
 
 use crate::read_arrival::read_arrival;
 use crate::respond::respond;
@@ -16,8 +17,9 @@ use farm_base::{Clock, Conn, Lots};
 use farm_core::Page;
 use purge_relay::Wire;
 use revision_keeper::Keeper;
+use slot_cache::SlotCache;
 use std::alloc::Global;
-use wan_cache::RegionStore;
+use std::thread::Threads;
 
 /// At most this many requests are answered on one connection.
 pub const REQUESTS_MAX: u64 = 1_000; // requests
@@ -45,9 +47,10 @@ pub enum ConnEnd {
 ///
 /// The farm is ready for it: neither cache is lent, and no request is open under the number 0, which whole requests
 /// take. It is so again at the end.
-pub fn serve_conn<X: Conn, K: Keeper, S: RegionStore<Page>, C: Clock, L: Lots, W: Wire>(
+pub fn serve_conn<R: Threads + Sync, X: Conn, K: Keeper, C: Clock, L: Lots, W: Wire>(
+    rt: &R,
     alloc: Global,
-    served: &mut ServedFarm<K, S>,
+    served: &mut ServedFarm<K, SlotCache<Page>>,
     conn: &mut X,
     clock: &mut C,
     lots: &mut L,
@@ -66,8 +69,8 @@ pub fn serve_conn<X: Conn, K: Keeper, S: RegionStore<Page>, C: Clock, L: Lots, W
         (heard_seen (C.exposed clock.new) (L.exposed lots.new) (W.carried wire.new) (W.refused wire.new)
         (W.empty wire.new))
         (unsent_of served.old.farm served.old.sent) (unsent_of served.new.farm served.new.sent)
-        (StandsSent K.content K.faults S.cache served.old.farm served.old.sent)
-        (StandsSent K.content K.faults S.cache served.new.farm served.new.sent) (end_of result) }
+        (StandsSent K.content K.faults map_of served.old.farm served.old.sent)
+        (StandsSent K.content K.faults map_of served.new.farm served.new.sent) (end_of result) }
     // The farm has its plan, its caches and its replicas as before.
     ensures shape { SameShape served.old.farm served.new.farm }
     ensures whole { IsWhole served.new.farm }
@@ -79,7 +82,7 @@ pub fn serve_conn<X: Conn, K: Keeper, S: RegionStore<Page>, C: Clock, L: Lots, W
     let mut answered = 0;
     'requests: loop {
         let arrival = read_arrival(alloc, conn, &mut kept);
-        let reaction = serve_arrival(alloc, served, clock, lots, wire, arrival);
+        let reaction = serve_arrival(rt, alloc, served, clock, lots, wire, arrival);
         if let Some(end) = answer(alloc, conn, reaction, answered + 1) {
             return end;
         }

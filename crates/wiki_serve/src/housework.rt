@@ -8,13 +8,14 @@ ghost use Rattle.farm_steps.specs.ViewSteps.{region_at};
 ghost use Rattle.farm_core.specs.FarmParts.{IsWhole};
 ghost use Rattle.wiki_serve.specs.Turns.{MakesStep};
 ghost use Rattle.wiki_serve.specs.Housework.{IsRow, taken_of, wire_seen, SendsAll, TakesAll, BeatsIfDue, AppliesTo, DoesHousework};
+ghost use Rattle.slot_cache.specs.AsModel.{map_of};
 
 use crate::served_farm::ServedFarm;
 use farm_base::{BEAT_AFTER, MOMENT_MAX, Readings, Region};
 use farm_core::{Farm, Page};
 use purge_relay::{Message, Wire};
 use revision_keeper::Keeper;
-use wan_cache::RegionStore;
+use slot_cache::SlotCache;
 
 /// At most this many messages are taken from the wire before a request.
 pub const TAKEN_MAX: u32 = 256; // messages
@@ -22,13 +23,13 @@ pub const TAKEN_MAX: u32 = 256; // messages
 /// Keeps the house before a request, at its readings: the unsent messages are sent in order, until one is refused;
 /// messages are taken and carried, until none comes or there were enough; a beat is made if it is due; and each replica
 /// applies, home's first. What these steps answer ends nothing and is shown to no one.
-pub(crate) fn keep_house<K: Keeper, S: RegionStore<Page>, W: Wire>(
-    served: &mut ServedFarm<K, S>,
+pub(crate) fn keep_house<K: Keeper, W: Wire>(
+    served: &mut ServedFarm<K, SlotCache<Page>>,
     at: &Readings,
     wire: &mut W,
 )
     requires { IsWhole served.old.farm }
-    ensures { DoesHousework K.content K.faults S.cache served.old.farm served.new.farm served.old.sent served.new.sent
+    ensures { DoesHousework K.content K.faults map_of served.old.farm served.new.farm served.old.sent served.new.sent
         at.now (wire_seen (W.carried wire.old) (W.refused wire.old) (W.empty wire.old))
         (wire_seen (W.carried wire.new) (W.refused wire.new) (W.empty wire.new)) }
 {
@@ -41,11 +42,7 @@ pub(crate) fn keep_house<K: Keeper, S: RegionStore<Page>, W: Wire>(
 }
 
 /// Gives the wire the messages after the first `sent`, in order, until it refuses one.
-fn send_unsent<K: Keeper, S: RegionStore<Page>, W: Wire>(
-    farm: &Farm<K, S>,
-    sent: &mut u64,
-    wire: &mut W,
-)
+fn send_unsent<K: Keeper, W: Wire>(farm: &Farm<K, SlotCache<Page>>, sent: &mut u64, wire: &mut W)
     ensures { SendsAll farm.now.ledger.rows sent.old sent.new
         (wire_seen (W.carried wire.old) (W.refused wire.old) (W.empty wire.old))
         (wire_seen (W.carried wire.new) (W.refused wire.new) (W.empty wire.new)) }
@@ -59,7 +56,7 @@ fn send_unsent<K: Keeper, S: RegionStore<Page>, W: Wire>(
 }
 
 /// The message after the first `sent`; None if there is none.
-fn message_after<K: Keeper, S: RegionStore<Page>>(farm: &Farm<K, S>, sent: u64) -> Option<&Message>
+fn message_after<K: Keeper>(farm: &Farm<K, SlotCache<Page>>, sent: u64) -> Option<&Message>
     ensures some { IfSome result (λ message. (sent < length farm.now.ledger.rows)
         × IsRow farm.now.ledger.rows (sent + 1) (taken_of message.now)) }
     ensures small { IfSome result (λ message. sent + 1 < 2 ^ 64) }
@@ -73,13 +70,9 @@ fn message_after<K: Keeper, S: RegionStore<Page>>(farm: &Farm<K, S>, sent: u64) 
 }
 
 /// Takes messages from the wire and carries them, until none comes or there were [`TAKEN_MAX`].
-fn carry_taken<K: Keeper, S: RegionStore<Page>, W: Wire>(
-    farm: &mut Farm<K, S>,
-    at: &Readings,
-    wire: &mut W,
-)
+fn carry_taken<K: Keeper, W: Wire>(farm: &mut Farm<K, SlotCache<Page>>, at: &Readings, wire: &mut W)
     requires { IsWhole farm.old }
-    ensures { TakesAll K.content K.faults S.cache farm.old farm.new at.now
+    ensures { TakesAll K.content K.faults map_of farm.old farm.new at.now
         (wire_seen (W.carried wire.old) (W.refused wire.old) (W.empty wire.old))
         (wire_seen (W.carried wire.new) (W.refused wire.new) (W.empty wire.new)) }
 {
@@ -93,28 +86,24 @@ fn carry_taken<K: Keeper, S: RegionStore<Page>, W: Wire>(
     }
 }
 
-fn carry_one<K: Keeper, S: RegionStore<Page>>(
-    farm: &mut Farm<K, S>,
-    at: &Readings,
-    message: Message,
-)
+fn carry_one<K: Keeper>(farm: &mut Farm<K, SlotCache<Page>>, at: &Readings, message: Message)
     requires { IsWhole farm.old }
-    ensures { MakesStep K.content K.faults S.cache farm.old farm.new at.now
+    ensures { MakesStep K.content K.faults map_of farm.old farm.new at.now
         (Carry message.number (Some (body_of message.body))) }
 {
     farm.carry(*at, message.number, Some(&message.body));
 }
 
 /// Makes a beat, if the last one of this farm is long enough ago or there was none.
-fn beat_if_due<K: Keeper, S: RegionStore<Page>>(farm: &mut Farm<K, S>, at: &Readings)
-    ensures { BeatsIfDue K.content K.faults S.cache farm.old farm.new at.now }
+fn beat_if_due<K: Keeper>(farm: &mut Farm<K, SlotCache<Page>>, at: &Readings)
+    ensures { BeatsIfDue K.content K.faults map_of farm.old farm.new at.now }
 {
     if is_due(farm, at) {
         beat_once(farm, at);
     }
 }
 
-fn is_due<K: Keeper, S: RegionStore<Page>>(farm: &Farm<K, S>, at: &Readings) -> bool
+fn is_due<K: Keeper>(farm: &Farm<K, SlotCache<Page>>, at: &Readings) -> bool
     ensures { result ≡ is_past (max farm.now.moments.home (cut at.now.home)) farm.now.last_beat }
 {
     let reading = at.home.0.min(MOMENT_MAX);
@@ -125,20 +114,20 @@ fn is_due<K: Keeper, S: RegionStore<Page>>(farm: &Farm<K, S>, at: &Readings) -> 
     }
 }
 
-fn beat_once<K: Keeper, S: RegionStore<Page>>(farm: &mut Farm<K, S>, at: &Readings)
-    ensures { MakesStep K.content K.faults S.cache farm.old farm.new at.now MakeBeat }
+fn beat_once<K: Keeper>(farm: &mut Farm<K, SlotCache<Page>>, at: &Readings)
+    ensures { MakesStep K.content K.faults map_of farm.old farm.new at.now MakeBeat }
 {
     farm.beat(*at);
 }
 
 /// Lets each replica of a region apply up to `pace` entries, in their order.
-fn apply_region<K: Keeper, S: RegionStore<Page>>(
-    farm: &mut Farm<K, S>,
+fn apply_region<K: Keeper>(
+    farm: &mut Farm<K, SlotCache<Page>>,
     at: &Readings,
     region: Region,
     pace: u32,
 )
-    ensures { AppliesTo K.content K.faults S.cache farm.old farm.new at.now region pace
+    ensures { AppliesTo K.content K.faults map_of farm.old farm.new at.now region pace
         (length (region_at region farm.old.home farm.old.west).replicas) }
 {
     let count = farm.replicas(region);
@@ -149,15 +138,15 @@ fn apply_region<K: Keeper, S: RegionStore<Page>>(
     }
 }
 
-fn apply_one<K: Keeper, S: RegionStore<Page>>(
-    farm: &mut Farm<K, S>,
+fn apply_one<K: Keeper>(
+    farm: &mut Farm<K, SlotCache<Page>>,
     at: &Readings,
     region: Region,
     replica: u8,
     pace: u32,
 )
     requires { replica < length (region_at region farm.old.home farm.old.west).replicas }
-    ensures { MakesStep K.content K.faults S.cache farm.old farm.new at.now (Apply region replica pace) }
+    ensures { MakesStep K.content K.faults map_of farm.old farm.new at.now (Apply region replica pace) }
 {
     farm.apply(*at, region, replica, pace);
 }

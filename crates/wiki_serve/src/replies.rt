@@ -7,7 +7,7 @@ ghost use Rattle.region_state.specs.AsModel.{answer_of};
 ghost use Rattle.edit_core.specs.AsModel.{saved_of};
 ghost use Rattle.http_reply.specs.Reply.{head_of_length, answer_bytes, text_line};
 ghost use Rattle.http_reply.specs.AsModel.{lines_of, status_of};
-ghost use Rattle.wiki_serve.specs.Replies.{location_of, answer_status, answer_lines, page_lines, saved_lines, answer_reply, text_reply, unserved_reply, source_lines};
+ghost use Rattle.wiki_serve.specs.Replies.{location_of, answer_status, answer_lines, page_lines, saved_lines, answer_reply, text_reply, source_lines};
 
 use drill_script::{answer_text, origin_text, page_bytes};
 use farm_base::Memory;
@@ -196,19 +196,4 @@ fn push_line(
     let value = String::from_str(alloc, value)?;
     lines.push((name, value))?;
     Ok(())
-}
-
-/// The response to a request that is read and not served.
-pub(crate) fn unserved_bytes(alloc: Global, head: bool, close: bool) -> Result<Vec<u8>, Memory>
-    ensures { IfOk result (λ bytes. bytes.items ≡ answer_bytes (unserved_reply head close)) }
-{
-    let reply = Reply {
-        status: Status::NotImplemented,
-        html: false,
-        body: line_of(alloc, "batch")?,
-        lines: Vec::new(alloc),
-        head,
-        close,
-    };
-    answer_bytes(alloc, &reply)
 }

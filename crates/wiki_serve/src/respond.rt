@@ -1,19 +1,18 @@
 // Writing the response to a request.
-ghost use Rattle.std.specs.Prelude.{◌≡◌, ◌==◌, ◌||◌, ◌++◌, [], if◌then◌else◌, IfOk, OnOk};
+ghost use Rattle.std.specs.Prelude.{◌≡◌, ◌==◌, ◌||◌, ◌++◌, [], length, if◌then◌else◌, IfOk};
 ghost use Rattle.wiki_model.specs.Limits.{requests_max};
 ghost use Rattle.region_state.specs.AsModel.{answer_of};
 ghost use Rattle.wiki_model.specs.Report as report;
-ghost use Rattle.farm_base.specs.Exposed.{Adds, AddsPrefix};
-ghost use Rattle.farm_base.specs.Causes.{HasCause};
 ghost use Rattle.http_reply.specs.Reply as reply;
 ghost use Rattle.http_reply.specs.AsModel.{refusal_of};
 ghost use Rattle.wiki_serve.specs.Connections.{conn_seen};
-ghost use Rattle.wiki_serve.specs.Reactions.{Responds, WritesResponse, ended_of, reaction_closes, reaction_bytes, page_part, end_after};
+ghost use Rattle.wiki_serve.specs.Reactions.{Responds, WritesResponse, ended_of, reaction_closes, reaction_bytes, listed_body, page_part, end_after};
 
 use crate::connection::{ConnEnd, REQUESTS_MAX};
-use crate::replies::{answer_start, sent_page, unserved_bytes};
-use crate::serve_arrival::{Answered, Reaction};
-use farm_base::{Conn, Memory, OutFault, write_all};
+use crate::list_answers::{batch_body, listed_head};
+use crate::replies::{answer_start, sent_page};
+use crate::serve_arrival::{Answered, Listed, Reaction};
+use farm_base::{Conn, Memory, OutFault, write_both};
 use http_reply::{Refusal, answer_bytes, refusal_reply};
 use std::alloc::Global;
 
@@ -45,7 +44,7 @@ fn ended(reaction: &Reaction) -> Option<ConnEnd>
 {
     match reaction {
         Reaction::Ended(end) => Some(*end),
-        Reaction::Refused(_) | Reaction::Answered(_) | Reaction::Unserved { .. } => None,
+        Reaction::Refused(_) | Reaction::Answered(_) | Reaction::Listed(_) => None,
     }
 }
 
@@ -64,11 +63,14 @@ fn write_response<X: Conn>(
         (reaction_bytes reaction.now (closes || (number == requests_max))) closes number result }
     ensures peer { X.peer conn.new ≡ X.peer conn.old }
 {
-    let Ok(start) = start_of(alloc, reaction, is_last(closes, number)) else {
+    let Ok(body) = body_of(alloc, reaction) else {
+        return Some(ConnEnd::Memory);
+    };
+    let Ok(start) = start_of(alloc, reaction, body.len(), is_last(closes, number)) else {
         return Some(ConnEnd::Memory);
     };
     conn.shows_halves();
-    let wrote = write_both(conn, &start, page_of(reaction));
+    let wrote = write_both(conn, &start, page_of(reaction, &body));
     conn.shows_halves();
     match wrote {
         Err(OutFault::Failed) => Some(ConnEnd::WriteFault),
@@ -104,12 +106,28 @@ fn closes(reaction: &Reaction) -> bool
         Reaction::Ended(_) => true,
         Reaction::Refused(refusal) => refusal.close,
         Reaction::Answered(answered) => answered.close,
-        Reaction::Unserved { close, .. } => *close,
+        Reaction::Listed(listed) => listed.close,
     }
 }
 
-/// The bytes of the response, but for those of a page.
-fn start_of(alloc: Global, reaction: &Reaction, close: bool) -> Result<Vec<u8>, Memory>
+/// The body of a batch's response; empty for another.
+fn body_of(alloc: Global, reaction: &Reaction) -> Result<Vec<u8>, Memory>
+    ensures { IfOk result (λ body. body.items ≡ listed_body reaction.now) }
+{
+    match reaction {
+        Reaction::Listed(listed) => batch_body(alloc, &listed.answers),
+        _ => Ok(Vec::new(alloc)),
+    }
+}
+
+/// The bytes of the response, but for those of a page and of a batch's body, which has this many bytes.
+fn start_of(
+    alloc: Global,
+    reaction: &Reaction,
+    count: usize,
+    close: bool,
+) -> Result<Vec<u8>, Memory>
+    requires { count ≡ length (listed_body reaction.now) }
     ensures { IfOk result (λ start. start.items ++ page_part reaction.now ≡ reaction_bytes reaction.now close) }
 {
     match reaction {
@@ -122,7 +140,7 @@ fn start_of(alloc: Global, reaction: &Reaction, close: bool) -> Result<Vec<u8>, 
             answered.head,
             close,
         ),
-        Reaction::Unserved { head, .. } => unserved_bytes(alloc, *head, close),
+        Reaction::Listed(_) => listed_head(alloc, count, close),
     }
 }
 
@@ -134,28 +152,26 @@ fn refused_bytes(alloc: Global, refusal: &Refusal, close: bool) -> Result<Vec<u8
     answer_bytes(alloc, &reply)
 }
 
-/// The bytes of the page that is sent; none if there is none.
-fn page_of(reaction: &Reaction) -> &[u8]
+/// The bytes of the page or of the batch's body that are sent; none if there are none.
+fn page_of<'a>(reaction: &'a Reaction, body: &'a [u8]) -> &'a [u8]
+    requires { body.now ≡ listed_body reaction.now }
     ensures { result.now ≡ page_part reaction.now }
 {
     match reaction {
         Reaction::Answered(answered) => page_in(answered),
+        Reaction::Listed(listed) => body_in(listed, body),
         _ => &[],
     }
+}
+
+fn body_in<'a>(listed: &Listed, body: &'a [u8]) -> &'a [u8]
+    ensures { result.now ≡ (if listed.now.head then [] else body.now) }
+{
+    if listed.head { &[] } else { body }
 }
 
 fn page_in(answered: &Answered) -> &[u8]
     ensures { result.now ≡ (if answered.now.head then [] else report.page_of (answer_of answered.now.answer)) }
 {
     sent_page(&answered.answer, answered.head)
-}
-
-fn write_both<X: Conn>(conn: &mut X, start: &[u8], page: &[u8]) -> Result<(), OutFault>
-    ensures ok { OnOk result (Adds (X.written conn.old) (X.written conn.new) (start.now ++ page.now)) }
-    ensures prefix { AddsPrefix (X.written conn.old) (X.written conn.new) (start.now ++ page.now) }
-    ensures cause { HasCause (X.Sink.faults conn.old) (X.Sink.faults conn.new) result }
-    ensures other { X.reading_half conn.new ≡ X.reading_half conn.old }
-{
-    write_all(conn, start)?;
-    write_all(conn, page)
 }

@@ -1,5 +1,5 @@
 // What is done for what was read.
-ghost use Rattle.std.specs.Prelude.{◌≡◌, ◌≤◌, None, IfOk, option_map};
+ghost use Rattle.std.specs.Prelude.{◌≡◌, ◌≤◌, None, IfOk};
 ghost use Rattle.std.specs.String.{string_bytes};
 ghost use Rattle.wiki_model.specs.Bytes.{Bytes};
 ghost use Rattle.http_desk.specs.AsModel.{call_shown, request_shown};
@@ -8,9 +8,11 @@ ghost use Rattle.wiki_serve.specs.Reactions.{IsFrom, IsLocationFor, DoesCallFor,
 ghost use Rattle.wiki_model.specs.World.Asked.{AskedView, AskedEdit};
 ghost use Rattle.edit_core.specs.AsModel.{edit_of};
 ghost use Rattle.region_state.specs.AsModel.{answer_of, view_of};
-ghost use Rattle.wiki_serve.specs.Housework.{wire_seen, ServesAnswer};
+ghost use Rattle.wiki_serve.specs.Housework.{wire_seen, ServesAsked};
+ghost use Rattle.wiki_serve.specs.BatchSteps.{HasRoomFor};
 ghost use Rattle.farm_core.specs.FarmParts.{IsWhole, SameShape};
 ghost use Rattle.farm_steps.specs.RequestMap.{open_at};
+ghost use Rattle.slot_cache.specs.AsModel.{map_of};
 
 use crate::asked_steps::{make_edit, make_view};
 use crate::callers::{Visit, client_of, live_cookie, moment_for};
@@ -18,6 +20,9 @@ use crate::connection::ConnEnd;
 use crate::housework::keep_house;
 use crate::read_arrival::Arrival;
 use crate::replies::location_of;
+use crate::serve_batch::{
+    BatchAsk, BatchRoom, Said, draw_words, first_word, room_for, serve_batch,
+};
 use crate::served_farm::ServedFarm;
 use farm_base::{Clock, Lots, Memory, Readings};
 use farm_core::{Answer, EditAsk, Page, ViewAsk};
@@ -25,9 +30,10 @@ use http_desk::{Call, Request};
 use http_reply::Refusal;
 use purge_relay::Wire;
 use revision_keeper::Keeper;
+use slot_cache::SlotCache;
 use std::alloc::Global;
+use std::thread::Threads;
 use sticky_routes::region_of_host;
-use wan_cache::RegionStore;
 
 /// A request that was answered.
 #[derive(Drop)]
@@ -41,6 +47,27 @@ pub struct Answered {
     pub close: bool,
 }
 
+/// A batch that was answered by its round.
+#[derive(Drop)]
+pub struct Listed {
+    /// In the order of the titles.
+    pub answers: Vec<Answer>,
+    /// Whether the method was `HEAD`.
+    pub head: bool,
+    /// Whether the request asked to close the connection.
+    pub close: bool,
+}
+
+/// A visit, with what is made before its first step.
+#[derive(Drop)]
+pub struct Prepared {
+    pub visit: Visit,
+    /// The reading of the clocks.
+    pub at: Readings,
+    /// What a batch needs.
+    pub room: Option<BatchRoom>,
+}
+
 /// What there is to respond.
 #[derive(Drop)]
 pub enum Reaction {
@@ -50,14 +77,15 @@ pub enum Reaction {
     Refused(Refusal),
     /// The request was answered.
     Answered(Answered),
-    /// The request was read, and is not served.
-    Unserved { head: bool, close: bool },
+    /// All titles of a batch were answered.
+    Listed(Listed),
 }
 
 /// Does what a request that was read asks for. If it is out of memory before it begins, nothing is done.
-pub(crate) fn serve_arrival<K: Keeper, S: RegionStore<Page>, C: Clock, L: Lots, W: Wire>(
+pub(crate) fn serve_arrival<R: Threads + Sync, K: Keeper, C: Clock, L: Lots, W: Wire>(
+    rt: &R,
     alloc: Global,
-    served: &mut ServedFarm<K, S>,
+    served: &mut ServedFarm<K, SlotCache<Page>>,
     clock: &mut C,
     lots: &mut L,
     wire: &mut W,
@@ -65,7 +93,7 @@ pub(crate) fn serve_arrival<K: Keeper, S: RegionStore<Page>, C: Clock, L: Lots, 
 ) -> Reaction
     requires whole { IsWhole served.old.farm }
     requires free { open_at served.old.farm.requests 0 ≡ None }
-    ensures reacts { (peer : Bytes) → Reacts K.content K.faults S.cache peer served.old.farm served.new.farm served.old.sent
+    ensures reacts { (peer : Bytes) → Reacts K.content K.faults map_of peer served.old.farm served.new.farm served.old.sent
         served.new.sent
         (heard_seen (C.exposed clock.old) (L.exposed lots.old) (W.carried wire.old) (W.refused wire.old)
         (W.empty wire.old))
@@ -79,13 +107,14 @@ pub(crate) fn serve_arrival<K: Keeper, S: RegionStore<Page>, C: Clock, L: Lots, 
     match arrival {
         Arrival::Ended(end) => Reaction::Ended(end),
         Arrival::Refused(refusal) => Reaction::Refused(refusal),
-        Arrival::Ready(visit) => serve_visit(alloc, served, clock, lots, wire, visit),
+        Arrival::Ready(visit) => serve_visit(rt, alloc, served, clock, lots, wire, visit),
     }
 }
 
-fn serve_visit<K: Keeper, S: RegionStore<Page>, C: Clock, L: Lots, W: Wire>(
+fn serve_visit<R: Threads + Sync, K: Keeper, C: Clock, L: Lots, W: Wire>(
+    rt: &R,
     alloc: Global,
-    served: &mut ServedFarm<K, S>,
+    served: &mut ServedFarm<K, SlotCache<Page>>,
     clock: &mut C,
     lots: &mut L,
     wire: &mut W,
@@ -93,7 +122,7 @@ fn serve_visit<K: Keeper, S: RegionStore<Page>, C: Clock, L: Lots, W: Wire>(
 ) -> Reaction
     requires whole { IsWhole served.old.farm }
     requires free { open_at served.old.farm.requests 0 ≡ None }
-    ensures reacts { (peer : Bytes) → IsFrom peer visit → ReactsTo K.content K.faults S.cache (desk_of peer served.old.farm)
+    ensures reacts { (peer : Bytes) → IsFrom peer visit → ReactsTo K.content K.faults map_of (desk_of peer served.old.farm)
         served.old.farm served.new.farm served.old.sent served.new.sent
         (heard_seen (C.exposed clock.old) (L.exposed lots.old) (W.carried wire.old) (W.refused wire.old)
         (W.empty wire.old))
@@ -107,17 +136,25 @@ fn serve_visit<K: Keeper, S: RegionStore<Page>, C: Clock, L: Lots, W: Wire>(
     let Ok(location) = location_for(alloc, &visit.request.call) else {
         return Reaction::Ended(ConnEnd::Memory);
     };
+    let Ok(room) = room_for(alloc, &visit.request.call) else {
+        return Reaction::Ended(ConnEnd::Memory);
+    };
     let head = visit.request.head;
     let close = visit.request.close;
     let at = clock.readings();
-    match serve_call(alloc, served, lots, wire, &at, visit) {
-        Some(answer) => Reaction::Answered(Answered {
+    let prepared = Prepared { visit, at, room };
+    match serve_call(rt, alloc, served, lots, wire, prepared) {
+        Said::One(answer) => Reaction::Answered(Answered {
             location,
             answer,
             head,
             close,
         }),
-        None => Reaction::Unserved { head, close },
+        Said::Many(answers) => Reaction::Listed(Listed {
+            answers,
+            head,
+            close,
+        }),
     }
 }
 
@@ -132,28 +169,30 @@ fn location_for(alloc: Global, call: &Call) -> Result<String, Memory>
     }
 }
 
-/// Keeps the house, and then makes the steps of a page or an edit. A batch gets no answer.
-fn serve_call<K: Keeper, S: RegionStore<Page>, L: Lots, W: Wire>(
+/// Keeps the house, and then makes the steps of the call.
+fn serve_call<R: Threads + Sync, K: Keeper, L: Lots, W: Wire>(
+    rt: &R,
     alloc: Global,
-    served: &mut ServedFarm<K, S>,
+    served: &mut ServedFarm<K, SlotCache<Page>>,
     lots: &mut L,
     wire: &mut W,
-    at: &Readings,
-    visit: Visit,
-) -> Option<Answer>
+    prepared: Prepared,
+) -> Said
     requires whole { IsWhole served.old.farm }
     requires free { open_at served.old.farm.requests 0 ≡ None }
-    ensures does { (peer : Bytes) → IsFrom peer visit → DoesCallFor K.content K.faults S.cache (desk_of peer served.old.farm)
-        served.old.farm served.new.farm served.old.sent served.new.sent at.now
+    requires room { HasRoomFor (call_shown prepared.visit.request.call) prepared.room }
+    ensures does { (peer : Bytes) → IsFrom peer prepared.visit → DoesCallFor K.content K.faults map_of (desk_of peer served.old.farm)
+        served.old.farm served.new.farm served.old.sent served.new.sent prepared.at
         (outside_seen (L.exposed lots.old) (W.carried wire.old) (W.refused wire.old) (W.empty wire.old))
         (outside_seen (L.exposed lots.new) (W.carried wire.new) (W.refused wire.new) (W.empty wire.new))
-        (request_shown visit.request) (option_map answer_of result) }
+        (request_shown prepared.visit.request) result }
     ensures shape { SameShape served.old.farm served.new.farm }
     ensures free { open_at served.new.farm.requests 0 ≡ None }
     ensures counts { K.faults served.old.farm.keeper ≤ K.faults served.new.farm.keeper }
 {
+    let Prepared { visit, at, room } = prepared;
     let Visit { request, stranger } = visit;
-    let now = moment_for(&served.farm, at, &request);
+    let now = moment_for(&served.farm, &at, &request);
     let cookie = live_cookie(&request, now);
     let client = client_of(&cookie, stranger);
     let Request {
@@ -172,7 +211,7 @@ fn serve_call<K: Keeper, S: RegionStore<Page>, L: Lots, W: Wire>(
                 word: lots.word(),
                 title,
             };
-            serve_view(alloc, served, wire, at, ask)
+            Said::One(serve_view(alloc, served, wire, &at, ask))
         }
         Call::Edit {
             title,
@@ -187,46 +226,63 @@ fn serve_call<K: Keeper, S: RegionStore<Page>, L: Lots, W: Wire>(
                 base,
                 text,
             };
-            serve_edit(served, wire, at, ask)
+            Said::One(serve_edit(served, wire, &at, ask))
         }
-        Call::Batch(_) => {
-            keep_house(served, at, wire);
-            None
+        Call::Batch(titles) => {
+            let Some(room) = room else { unreachable!() };
+            let BatchRoom { first, drawn, jobs } = room;
+            let drawn = draw_words(lots, titles, drawn);
+            let view = ViewAsk {
+                host: region_of_host(&host),
+                client,
+                cookie,
+                use_master: cookies.use_master,
+                word: first_word(&drawn),
+                title: first,
+            };
+            let ask = BatchAsk { view, drawn, jobs };
+            serve_batch(rt, alloc, served, wire, &at, ask)
         }
     }
 }
 
-fn serve_view<K: Keeper, S: RegionStore<Page>, W: Wire>(
+fn serve_view<K: Keeper, W: Wire>(
     alloc: Global,
-    served: &mut ServedFarm<K, S>,
+    served: &mut ServedFarm<K, SlotCache<Page>>,
     wire: &mut W,
     at: &Readings,
     ask: ViewAsk,
-) -> Option<Answer>
+) -> Answer
     requires whole { IsWhole served.old.farm }
     requires free { open_at served.old.farm.requests 0 ≡ None }
-    ensures { ServesAnswer K.content K.faults S.cache served.old.farm served.new.farm served.old.sent served.new.sent
+    ensures { ServesAsked K.content K.faults map_of served.old.farm served.new.farm served.old.sent served.new.sent
         at.now (wire_seen (W.carried wire.old) (W.refused wire.old) (W.empty wire.old))
         (wire_seen (W.carried wire.new) (W.refused wire.new) (W.empty wire.new))
-        (AskedView (view_of ask)) (option_map answer_of result) }
+        (AskedView (view_of ask)) (answer_of result) }
 {
     keep_house(served, at, wire);
-    make_view(alloc, &mut served.farm, at, ask)
+    let Some(answer) = make_view(alloc, &mut served.farm, at, ask) else {
+        unreachable!()
+    };
+    answer
 }
 
-fn serve_edit<K: Keeper, S: RegionStore<Page>, W: Wire>(
-    served: &mut ServedFarm<K, S>,
+fn serve_edit<K: Keeper, W: Wire>(
+    served: &mut ServedFarm<K, SlotCache<Page>>,
     wire: &mut W,
     at: &Readings,
     ask: EditAsk,
-) -> Option<Answer>
+) -> Answer
     requires whole { IsWhole served.old.farm }
     requires free { open_at served.old.farm.requests 0 ≡ None }
-    ensures { ServesAnswer K.content K.faults S.cache served.old.farm served.new.farm served.old.sent served.new.sent
+    ensures { ServesAsked K.content K.faults map_of served.old.farm served.new.farm served.old.sent served.new.sent
         at.now (wire_seen (W.carried wire.old) (W.refused wire.old) (W.empty wire.old))
         (wire_seen (W.carried wire.new) (W.refused wire.new) (W.empty wire.new))
-        (AskedEdit (edit_of ask)) (option_map answer_of result) }
+        (AskedEdit (edit_of ask)) (answer_of result) }
 {
     keep_house(served, at, wire);
-    make_edit(&mut served.farm, at, ask)
+    let Some(answer) = make_edit(&mut served.farm, at, ask) else {
+        unreachable!()
+    };
+    answer
 }

@@ -1,6 +1,7 @@
 use Rattle.std.proofs.Common.{◌≡◌, ◌≤◌, None}
 use Rattle.farm_core.specs.FarmParts.{IsWhole, SameShape}
 use Rattle.farm_steps.specs.RequestMap.{open_at}
+use Rattle.slot_cache.specs.AsModel.{map_of}
 use Rattle.wiki_serve.specs.Connections.{conn_seen}
 use Rattle.wiki_serve.specs.Exchanges.{heard_seen}
 use Rattle.wiki_serve.specs.Turns.{StandsSent, unsent_of}
@@ -20,8 +21,8 @@ invariant-loop-connections g l =
     (heard_seen (g.C.Clock.exposed l.clock) (g.L.Lots.exposed l.lots) (g.W.Wire.carried l.wire)
     (g.W.Wire.refused l.wire) (g.W.Wire.empty l.wire))
     (unsent_of l.fn.host.served.farm l.fn.host.served.sent) (unsent_of l.host.served.farm l.host.served.sent)
-    (StandsSent g.K.Keeper.content g.K.Keeper.faults g.S.RegionStore.cache l.fn.host.served.farm l.fn.host.served.sent)
-    (StandsSent g.K.Keeper.content g.K.Keeper.faults g.S.RegionStore.cache l.host.served.farm l.host.served.sent)
+    (StandsSent g.K.Keeper.content g.K.Keeper.faults map_of l.fn.host.served.farm l.fn.host.served.sent)
+    (StandsSent g.K.Keeper.content g.K.Keeper.faults map_of l.host.served.farm l.host.served.sent)
     l.connections
     × (g.D.Door.nones l.door ≡ g.D.Door.nones l.fn.door)
     × IsWhole l.host.served.farm

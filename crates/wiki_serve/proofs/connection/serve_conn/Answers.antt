@@ -1,4 +1,5 @@
 use Rattle.std.proofs.Common.{◌+◌, ◌≤◌, [], refl, sym, subst, ◌∙◌, arith}
+use Rattle.slot_cache.specs.AsModel.{map_of}
 use Rattle.wiki_serve.specs.Exchanges.{heard_seen}
 use Rattle.wiki_serve.specs.Connections.{conn_seen}
 use Rattle.wiki_serve.specs.Served.{seen_at, MayServeOn}
@@ -15,7 +16,7 @@ requests-init g c =
     let desk = desk_of (g.X.Conn.peer c.args.conn.now) farm in
     let a = seen_at (conn_seen (g.X.Conn.peer c.args.conn.now) (g.X.Source.left c.args.conn.now) (g.X.Sink.written c.args.conn.now) (g.X.Source.faults c.args.conn.now) (g.X.Sink.faults c.args.conn.now)) []
     (heard_seen (g.C.Clock.exposed c.args.clock.now) (g.L.Lots.exposed c.args.lots.now) (g.W.Wire.carried c.args.wire.now) (g.W.Wire.refused c.args.wire.now) (g.W.Wire.empty c.args.wire.now)) (unsent_of farm c.args.served.now.sent) in
-    let Stood = StandsSent g.K.Keeper.content g.K.Keeper.faults g.S.RegionStore.cache farm c.args.served.now.sent in
+    let Stood = StandsSent g.K.Keeper.content g.K.Keeper.faults map_of farm c.args.served.now.sent in
     record {
       few = omega arith;
       served = subst (λ k. MayServeOn desk a (seen_at a.conn k a.heard a.unsent) Stood Stood 0) (sym c.new-kept.ensures.items) (served_nothing desk a Stood refl);
@@ -31,7 +32,7 @@ returns-in-Some-clause-served g c =
     let desk = desk_of (g.X.Conn.peer c.args.conn.now) farm in
     let a = seen_at (conn_seen (g.X.Conn.peer c.args.conn.now) (g.X.Source.left c.args.conn.now) (g.X.Sink.written c.args.conn.now) (g.X.Source.faults c.args.conn.now) (g.X.Sink.faults c.args.conn.now)) []
     (heard_seen (g.C.Clock.exposed c.args.clock.now) (g.L.Lots.exposed c.args.lots.now) (g.W.Wire.carried c.args.wire.now) (g.W.Wire.refused c.args.wire.now) (g.W.Wire.empty c.args.wire.now)) (unsent_of farm c.args.served.now.sent) in
-    let Stood = StandsSent g.K.Keeper.content g.K.Keeper.faults g.S.RegionStore.cache farm c.args.served.now.sent in
+    let Stood = StandsSent g.K.Keeper.content g.K.Keeper.faults map_of farm c.args.served.now.sent in
     let old = c.requests.served.farm in
     let new = c.serve_arrival-reaction.new.served.farm in
     let before = (heard_seen (g.C.Clock.exposed c.requests.clock) (g.L.Lots.exposed c.requests.lots) (g.W.Wire.carried c.requests.wire) (g.W.Wire.refused c.requests.wire) (g.W.Wire.empty c.requests.wire)) in
@@ -41,11 +42,11 @@ returns-in-Some-clause-served g c =
     let conn = (conn_seen (g.X.Conn.peer c.answer.new.conn) (g.X.Source.left c.answer.new.conn) (g.X.Sink.written c.answer.new.conn) (g.X.Source.faults c.answer.new.conn) (g.X.Sink.faults c.answer.new.conn)) in
     let kept = c.read_arrival-arrival.new.kept.items in
     let next =
-    turn_whole g.K.Keeper.content g.K.Keeper.faults g.S.RegionStore.cache (g.X.Conn.peer c.args.conn.now) farm a b mid conn kept old new c.requests.served.sent c.serve_arrival-reaction.new.served.sent before now Stood c.requests.answered
+    turn_whole g.K.Keeper.content g.K.Keeper.faults map_of (g.X.Conn.peer c.args.conn.now) farm a b mid conn kept old new c.requests.served.sent c.serve_arrival-reaction.new.served.sent before now Stood c.requests.answered
     c.read_arrival-arrival.result c.serve_arrival-reaction.result c.answer.result
     (c.read_arrival-arrival.ensures.peer ∙ c.requests.invariant.peer) c.requests.invariant.shape.plan refl refl c.requests.invariant.served
     c.read_arrival-arrival.ensures.arrives (c.serve_arrival-reaction.ensures.reacts (g.X.Conn.peer c.read_arrival-arrival.new.conn)) c.answer.ensures.responds in
-    let Later = StandsSent g.K.Keeper.content g.K.Keeper.faults g.S.RegionStore.cache new c.serve_arrival-reaction.new.served.sent in
+    let Later = StandsSent g.K.Keeper.content g.K.Keeper.faults map_of new c.serve_arrival-reaction.new.served.sent in
     subst (Next desk a conn kept now (unsent_of new c.serve_arrival-reaction.new.served.sent) Stood Later c.requests.answered) c.in-Some.is next
 
 pub requests-preserved : goal.requests-preserved
@@ -54,7 +55,7 @@ requests-preserved g c =
     let desk = desk_of (g.X.Conn.peer c.args.conn.now) farm in
     let a = seen_at (conn_seen (g.X.Conn.peer c.args.conn.now) (g.X.Source.left c.args.conn.now) (g.X.Sink.written c.args.conn.now) (g.X.Source.faults c.args.conn.now) (g.X.Sink.faults c.args.conn.now)) []
     (heard_seen (g.C.Clock.exposed c.args.clock.now) (g.L.Lots.exposed c.args.lots.now) (g.W.Wire.carried c.args.wire.now) (g.W.Wire.refused c.args.wire.now) (g.W.Wire.empty c.args.wire.now)) (unsent_of farm c.args.served.now.sent) in
-    let Stood = StandsSent g.K.Keeper.content g.K.Keeper.faults g.S.RegionStore.cache farm c.args.served.now.sent in
+    let Stood = StandsSent g.K.Keeper.content g.K.Keeper.faults map_of farm c.args.served.now.sent in
     let old = c.requests.served.farm in
     let new = c.serve_arrival-reaction.new.served.farm in
     let before = (heard_seen (g.C.Clock.exposed c.requests.clock) (g.L.Lots.exposed c.requests.lots) (g.W.Wire.carried c.requests.wire) (g.W.Wire.refused c.requests.wire) (g.W.Wire.empty c.requests.wire)) in
@@ -64,11 +65,11 @@ requests-preserved g c =
     let conn = (conn_seen (g.X.Conn.peer c.answer.new.conn) (g.X.Source.left c.answer.new.conn) (g.X.Sink.written c.answer.new.conn) (g.X.Source.faults c.answer.new.conn) (g.X.Sink.faults c.answer.new.conn)) in
     let kept = c.read_arrival-arrival.new.kept.items in
     let next =
-    turn_whole g.K.Keeper.content g.K.Keeper.faults g.S.RegionStore.cache (g.X.Conn.peer c.args.conn.now) farm a b mid conn kept old new c.requests.served.sent c.serve_arrival-reaction.new.served.sent before now Stood c.requests.answered
+    turn_whole g.K.Keeper.content g.K.Keeper.faults map_of (g.X.Conn.peer c.args.conn.now) farm a b mid conn kept old new c.requests.served.sent c.serve_arrival-reaction.new.served.sent before now Stood c.requests.answered
     c.read_arrival-arrival.result c.serve_arrival-reaction.result c.answer.result
     (c.read_arrival-arrival.ensures.peer ∙ c.requests.invariant.peer) c.requests.invariant.shape.plan refl refl c.requests.invariant.served
     c.read_arrival-arrival.ensures.arrives (c.serve_arrival-reaction.ensures.reacts (g.X.Conn.peer c.read_arrival-arrival.new.conn)) c.answer.ensures.responds in
-    let Later = StandsSent g.K.Keeper.content g.K.Keeper.faults g.S.RegionStore.cache new c.serve_arrival-reaction.new.served.sent in
+    let Later = StandsSent g.K.Keeper.content g.K.Keeper.faults map_of new c.serve_arrival-reaction.new.served.sent in
     let may = subst (Next desk a conn kept now (unsent_of new c.serve_arrival-reaction.new.served.sent) Stood Later c.requests.answered) c.in_default.is next in
     let small = may.may_go_on.1 in
     let number = may.number in

@@ -1,6 +1,7 @@
 use Rattle.std.proofs.Common.{◌≡◌, ◌≤◌, ◌<◌, ◌-◌, [], None}
 use Rattle.farm_steps.specs.RequestMap.{open_at}
 use Rattle.farm_core.specs.FarmParts.{SameShape}
+use Rattle.slot_cache.specs.AsModel.{map_of}
 use Rattle.wiki_serve.specs.Exchanges.{heard_seen}
 use Rattle.wiki_serve.specs.Connections.{conn_seen}
 use Rattle.wiki_serve.specs.Served.{seen_at, MayServeOn}
@@ -18,8 +19,8 @@ invariant-requests g l = record {
       (seen_at (conn_seen (g.X.Conn.peer l.conn) (g.X.Source.left l.conn) (g.X.Sink.written l.conn) (g.X.Source.faults l.conn) (g.X.Sink.faults l.conn)) l.kept.items
       (heard_seen (g.C.Clock.exposed l.clock) (g.L.Lots.exposed l.lots) (g.W.Wire.carried l.wire) (g.W.Wire.refused l.wire) (g.W.Wire.empty l.wire))
       (unsent_of l.served.farm l.served.sent))
-      (StandsSent g.K.Keeper.content g.K.Keeper.faults g.S.RegionStore.cache l.fn.served.farm l.fn.served.sent)
-      (StandsSent g.K.Keeper.content g.K.Keeper.faults g.S.RegionStore.cache l.served.farm l.served.sent) l.answered;
+      (StandsSent g.K.Keeper.content g.K.Keeper.faults map_of l.fn.served.farm l.fn.served.sent)
+      (StandsSent g.K.Keeper.content g.K.Keeper.faults map_of l.served.farm l.served.sent) l.answered;
   peer : g.X.Conn.peer l.conn ≡ g.X.Conn.peer l.fn.conn;
   shape : SameShape l.fn.served.farm l.served.farm;
   free : open_at l.served.farm.requests 0 ≡ None;

@@ -1,11 +1,12 @@
 use Rattle.std.proofs.Common.{◌-◌, ◌≤◌}
+use Rattle.slot_cache.specs.AsModel.{map_of}
 use Rattle.wiki_serve.specs.Housework.{wire_seen, IsTaking}
 use Rattle.wiki_serve.proofs.housework.carry_taken.Given as goal
 
 abbrev pub invariant-taking : goal.invariant-taking
 invariant-taking g l = record {
   few : l.count ≤ 256;
-  takes : IsTaking g.K.Keeper.content g.K.Keeper.faults g.S.RegionStore.cache l.fn.farm l.farm l.at
+  takes : IsTaking g.K.Keeper.content g.K.Keeper.faults map_of l.fn.farm l.farm l.at
       (wire_seen (g.W.Wire.carried l.fn.wire) (g.W.Wire.refused l.fn.wire) (g.W.Wire.empty l.fn.wire))
       (wire_seen (g.W.Wire.carried l.wire) (g.W.Wire.refused l.wire) (g.W.Wire.empty l.wire)) l.count;
 }

@@ -1,0 +1,274 @@
+// Several pages at once, byte for byte.
+use crate::setting::{TestFarm, both, conn_of, serve_at, serve_by, small_farm, written};
+use edit_core::EditAsk;
+use farm_base::{MemClock, Region};
+use farm_core::{Asked, Farm, Page};
+use purge_relay::{Deal, FarmWire};
+use revision_keeper::Keeper;
+use slot_cache::SlotCache;
+use std::alloc::Global;
+use std::test::Fail;
+use std::thread::Threads;
+use wiki_serve::ConnEnd;
+use wiki_titles::{ClientId, Text, Title, Token};
+
+/// Saves the first text of a page at 5,000, without housekeeping. Its title is its token.
+fn save<K: Keeper>(
+    alloc: Global,
+    farm: &mut Farm<K, SlotCache<Page>>,
+    title: &str,
+    text: &str,
+) -> Result<(), Fail> {
+    let asked = Asked::Edit(EditAsk {
+        client: ClientId::number(1),
+        token: Token::parse(alloc, title)?,
+        title: Title::parse(alloc, title)?,
+        base: 0,
+        text: Text::parse(alloc, text)?,
+    });
+    if farm.is_open(1) || farm.arrive(both(5_000), 1, asked).is_some() {
+        return Err(Fail::new("the edit did not arrive"));
+    }
+    if !farm.is_whole() || farm.begin(both(5_000), 1).is_some() {
+        return Err(Fail::new("the edit did not begin"));
+    }
+    if !farm.is_whole() {
+        return Err(Fail::new("a cache is lent"));
+    }
+    farm.commit(both(5_000), 1);
+    Ok(())
+}
+
+fn carry<K: Keeper>(farm: &mut Farm<K, SlotCache<Page>>, number: u64) -> Result<(), Fail> {
+    if !farm.is_whole() || farm.carry(both(5_000), number, None).is_some() {
+        return Err(Fail::new("the message was not carried"));
+    }
+    Ok(())
+}
+
+/// A farm where A, B and C were saved, and west received the purges of A and C.
+fn farm_of_three(alloc: Global) -> Result<TestFarm, Fail> {
+    let mut served = small_farm(alloc)?;
+    save(alloc, &mut served.farm, "A", "one")?;
+    save(alloc, &mut served.farm, "B", "two")?;
+    save(alloc, &mut served.farm, "C", "six")?;
+    carry(&mut served.farm, 1)?;
+    carry(&mut served.farm, 5)?;
+    Ok(served)
+}
+
+/// What is written for this input at 30,000, where the wire has B's purge and no other message.
+fn said_for<R: Threads + Sync>(
+    rt: &R,
+    alloc: Global,
+    served: &mut TestFarm,
+    input: &str,
+) -> Result<String, Fail> {
+    let mut deals = Vec::new(alloc);
+    deals.push(Deal::Carry(3))?;
+    let mut wire = FarmWire::scripted(alloc, deals);
+    let mut conn = conn_of(alloc, input.as_bytes(), 65_536)?;
+    match serve_at(rt, alloc, served, &mut conn, &mut wire, 30_000)? {
+        ConnEnd::Closed => written(alloc, &conn),
+        _ => Err(Fail::new("the connection was not closed")),
+    }
+}
+
+#[test]
+fn three_pages_are_rendered_and_then_hit(rt: HostRuntime) -> Result<(), Fail> {
+    let alloc = rt.alloc();
+    let mut served = farm_of_three(alloc)?;
+    let input = "\
+GET /batch?titles=A%7CB%7CC HTTP/1.1\r
+Host: west.wiki.example\r
+\r
+GET /batch?titles=A%7CB%7CC HTTP/1.1\r
+Host: west.wiki.example\r
+\r
+";
+    let text = said_for(&rt, alloc, &mut served, input)?;
+    let wanted = "\
+HTTP/1.1 200 OK\r
+Content-Type: text/plain; charset=utf-8\r
+Content-Length: 306\r
+Connection: keep-alive\r
+\r
+1 ok source=4 from=replica:0 lagged=0 bytes=55
+<!DOCTYPE html>
+<title>A</title>
+<h1>A</h1>
+<p>one</p>
+2 ok source=4 from=replica:0 lagged=0 bytes=55
+<!DOCTYPE html>
+<title>B</title>
+<h1>B</h1>
+<p>two</p>
+3 ok source=4 from=replica:0 lagged=0 bytes=55
+<!DOCTYPE html>
+<title>C</title>
+<h1>C</h1>
+<p>six</p>
+HTTP/1.1 200 OK\r
+Content-Type: text/plain; charset=utf-8\r
+Content-Length: 292\r
+Connection: keep-alive\r
+\r
+1 ok source=4 from=hit lagged=0 bytes=55
+<!DOCTYPE html>
+<title>A</title>
+<h1>A</h1>
+<p>one</p>
+2 ok source=4 from=interim lagged=0 bytes=55
+<!DOCTYPE html>
+<title>B</title>
+<h1>B</h1>
+<p>two</p>
+3 ok source=4 from=hit lagged=0 bytes=55
+<!DOCTYPE html>
+<title>C</title>
+<h1>C</h1>
+<p>six</p>
+";
+    assert_eq!(rt; text.as_str(), wanted);
+    assert!(rt; served.farm.receipt(3, Region::West).is_some());
+    Ok(())
+}
+
+#[test]
+fn a_batch_of_one_hits_the_page_that_was_viewed(rt: HostRuntime) -> Result<(), Fail> {
+    let alloc = rt.alloc();
+    let input = "\
+POST /edit HTTP/1.1\r
+Host: wiki.example\r
+Content-Type: application/x-www-form-urlencoded\r
+Content-Length: 45\r
+Cookie: theme=dark; cpPosIndex=1%405%2300000000000000000000000000000001\r
+\r
+title=Caf%C3%A9_menu&base=0&token=k1&text=one\
+GET /wiki/Caf%C3%A9_menu HTTP/1.1\r
+Host: wiki.example\r
+\r
+GET /batch?titles=Caf%C3%A9_menu HTTP/1.1\r
+Host: wiki.example\r
+\r
+";
+    let wanted = "\
+HTTP/1.1 200 OK\r
+Content-Type: text/html; charset=utf-8\r
+Content-Length: 73\r
+Wiki-Source: 3\r
+Wiki-From: replica:0\r
+Wiki-Lagged: 0\r
+Connection: keep-alive\r
+\r
+<!DOCTYPE html>
+<title>Café menu</title>
+<h1>Café menu</h1>
+<p>one</p>
+HTTP/1.1 200 OK\r
+Content-Type: text/plain; charset=utf-8\r
+Content-Length: 114\r
+Connection: keep-alive\r
+\r
+1 ok source=3 from=hit lagged=0 bytes=73
+<!DOCTYPE html>
+<title>Café menu</title>
+<h1>Café menu</h1>
+<p>one</p>
+";
+    let mut served = small_farm(alloc)?;
+    let mut wire = FarmWire::new(alloc);
+    let mut conn = conn_of(alloc, input.as_bytes(), 65_536)?;
+    let mut first = Vec::new(alloc);
+    first.push(both(5_000))?;
+    let mut clock = MemClock::new(first, both(30_000));
+    let end = serve_by(&rt, alloc, &mut served, &mut conn, &mut wire, &mut clock)?;
+    assert_eq!(rt; end, ConnEnd::Closed);
+    assert!(rt; written(alloc, &conn)?.as_str().ends_with(wanted));
+    Ok(())
+}
+
+#[test]
+fn a_session_that_is_behind_is_told_so_for_the_whole_batch(rt: HostRuntime) -> Result<(), Fail> {
+    let alloc = rt.alloc();
+    let mut served = farm_of_three(alloc)?;
+    let input = "\
+GET /batch?titles=A%7CB HTTP/1.1\r
+Host: west.wiki.example\r
+Cookie: cpPosIndex=4@25#00000000000000000000000000000001\r
+\r
+";
+    let wanted = "\
+HTTP/1.1 503 Service Unavailable\r
+Content-Type: text/plain; charset=utf-8\r
+Content-Length: 29\r
+Connection: keep-alive\r
+\r
+lag index needed=4 reached=0
+";
+    let text = said_for(&rt, alloc, &mut served, input)?;
+    assert_eq!(rt; text.as_str(), wanted);
+    Ok(())
+}
+
+#[test]
+fn sixteen_titles_are_answered_in_their_order(rt: HostRuntime) -> Result<(), Fail> {
+    let alloc = rt.alloc();
+    let mut served = farm_of_three(alloc)?;
+    let input = "\
+GET /batch?titles=A%7CD%7CD%7CD%7CD%7CD%7CD%7CD%7CD%7CD%7CD%7CD%7CD%7CD%7CD%7CA HTTP/1.1\r
+Host: wiki.example\r
+\r
+";
+    let wanted = "\
+HTTP/1.1 200 OK\r
+Content-Type: text/plain; charset=utf-8\r
+Content-Length: 471\r
+Connection: keep-alive\r
+\r
+1 ok source=4 from=replica:0 lagged=0 bytes=55
+<!DOCTYPE html>
+<title>A</title>
+<h1>A</h1>
+<p>one</p>
+2 no-page source=4
+3 no-page source=4
+4 no-page source=4
+5 no-page source=4
+6 no-page source=4
+7 no-page source=4
+8 no-page source=4
+9 no-page source=4
+10 no-page source=4
+11 no-page source=4
+12 no-page source=4
+13 no-page source=4
+14 no-page source=4
+15 no-page source=4
+16 ok source=4 from=hit lagged=0 bytes=55
+<!DOCTYPE html>
+<title>A</title>
+<h1>A</h1>
+<p>one</p>
+";
+    let text = said_for(&rt, alloc, &mut served, input)?;
+    assert_eq!(rt; text.as_str(), wanted);
+    Ok(())
+}
+
+#[test]
+fn a_head_says_how_long_a_batch_is_and_does_not_send_it(rt: HostRuntime) -> Result<(), Fail> {
+    let alloc = rt.alloc();
+    let mut served = farm_of_three(alloc)?;
+    let input = "HEAD /batch?titles=A%7CD HTTP/1.1\r\nHost: wiki.example\r\n\r\n";
+    let wanted = "\
+HTTP/1.1 200 OK\r
+Content-Type: text/plain; charset=utf-8\r
+Content-Length: 121\r
+Connection: keep-alive\r
+\r
+";
+    let text = said_for(&rt, alloc, &mut served, input)?;
+    assert_eq!(rt; text.as_str(), wanted);
+    Ok(())
+}

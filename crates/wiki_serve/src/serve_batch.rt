@@ -1,0 +1,238 @@
+// A batch: a view of each title, all of them in one round of the region's cache.
+ghost use Rattle.std.specs.Prelude.{◌≡◌, ◌≤◌, ◌<◌, ◌+◌, ◌++◌, ◌∷◌, [], length, map, IfOk, IfErr, Some, None};
+ghost use Rattle.wiki_model.specs.Bytes.{first_of_list};
+ghost use Rattle.wiki_model.specs.Limits.{jobs_max};
+ghost use Rattle.wiki_model.specs.Steps.{region_of};
+ghost use Rattle.http_desk.specs.AsModel.{call_shown};
+ghost use Rattle.slot_cache.specs.AsModel.{map_of};
+ghost use Rattle.region_state.specs.AsModel.{view_of};
+ghost use Rattle.farm_core.specs.FarmParts.{IsWhole};
+ghost use Rattle.farm_steps.specs.RequestMap.{open_at};
+ghost use Rattle.wiki_serve.specs.Housework.{wire_seen};
+ghost use Rattle.wiki_serve.specs.BatchSteps.{HasRoomFor, IsRoomFor, IsDrawn, IsOneDrawn, pair_of, word_of, job_at, FindsNeed, MakesBatch, ServesBatch, said_outcome};
+
+use crate::asked_steps::of_view;
+use crate::housework::keep_house;
+use crate::served_farm::ServedFarm;
+use farm_base::{Lots, Memory, Readings, Region};
+use farm_core::{Answer, Farm, Page, ViewAsk};
+use http_desk::Call;
+use purge_relay::Wire;
+use region_round::{JOBS_MAX, Job, OpenGate, RoundAsk, ViewJob, round};
+use revision_keeper::Keeper;
+use slot_cache::SlotCache;
+use std::alloc::Global;
+use std::thread::Threads;
+use wiki_titles::Title;
+
+/// A title of a batch, with the word that was drawn for it.
+#[derive(Debug, Drop)]
+pub struct Drawn {
+    pub title: Title,
+    pub word: u64,
+}
+
+/// What a batch needs memory for, made before its first step.
+#[derive(Debug, Drop)]
+pub struct BatchRoom {
+    /// The title whose view waits for all.
+    pub first: Title,
+    /// Room for each title with its word.
+    pub drawn: Vec<Drawn>,
+    /// Room for a job of each title.
+    pub jobs: Vec<Job>,
+}
+
+/// What a batch asks for.
+#[derive(Debug, Drop)]
+pub struct BatchAsk {
+    /// The view of the first title and word.
+    pub view: ViewAsk,
+    pub drawn: Vec<Drawn>,
+    /// Room for a job of each title.
+    pub jobs: Vec<Job>,
+}
+
+/// What a request was answered.
+#[derive(Drop)]
+pub enum Said {
+    One(Answer),
+    /// The answers of a batch, in the order of its titles.
+    Many(Vec<Answer>),
+}
+
+/// Room for a batch; none for another call. A batch that was read has 1 to [`JOBS_MAX`] titles, and no other gets room.
+pub(crate) fn room_for(alloc: Global, call: &Call) -> Result<Option<BatchRoom>, Memory>
+    ensures { IfOk result (λ room. HasRoomFor (call_shown call.now) room) }
+{
+    match call {
+        Call::Batch(titles) => Ok(Some(batch_room(alloc, titles)?)),
+        Call::Page(_) | Call::Edit { .. } => Ok(None),
+    }
+}
+
+fn batch_room(alloc: Global, titles: &[Title]) -> Result<BatchRoom, Memory>
+    ensures { IfOk result (λ room. IsRoomFor room titles.now) }
+{
+    let Some(first) = titles.first() else {
+        return Err(Memory);
+    };
+    if titles.len() > JOBS_MAX {
+        return Err(Memory);
+    }
+    Ok(BatchRoom {
+        first: first.clone()?,
+        drawn: Vec::with_capacity(alloc, titles.len())?,
+        jobs: Vec::with_capacity(alloc, titles.len())?,
+    })
+}
+
+/// Draws a word for each title, in their order. There is room for them.
+pub(crate) fn draw_words<L: Lots>(lots: &mut L, titles: Vec<Title>, room: Vec<Drawn>) -> Vec<Drawn>
+    requires empty { room.items ≡ [] }
+    requires room { length titles.items ≤ room.cap }
+    ensures drawn { IsDrawn (L.exposed lots.old) (L.exposed lots.new) titles.items result.items }
+{
+    let mut drawn = room;
+    for title in titles {
+        draw_one(lots, &mut drawn, title);
+    }
+    drawn
+}
+
+/// Draws a word for one more title. There is room for it.
+fn draw_one<L: Lots>(lots: &mut L, drawn: &mut Vec<Drawn>, title: Title)
+    requires room { length drawn.old.items < drawn.old.cap }
+    ensures room { drawn.old.cap ≤ drawn.new.cap }
+    ensures drawn { IsOneDrawn (L.exposed lots.old) (L.exposed lots.new) title drawn.old.items drawn.new.items }
+{
+    let word = lots.word();
+    let Ok(()) = drawn.push(Drawn { title, word }) else {
+        unreachable!()
+    };
+}
+
+/// The word of the first title. There is one.
+pub(crate) fn first_word(drawn: &[Drawn]) -> u64
+    requires { 0 < length drawn.now }
+    ensures { first_of_list (map word_of drawn.now) ≡ Some result }
+{
+    let Some(first) = drawn.first() else {
+        unreachable!()
+    };
+    first.word
+}
+
+/// Keeps the house, and then makes the steps of a batch.
+pub(crate) fn serve_batch<R: Threads + Sync, K: Keeper, W: Wire>(
+    rt: &R,
+    alloc: Global,
+    served: &mut ServedFarm<K, SlotCache<Page>>,
+    wire: &mut W,
+    at: &Readings,
+    ask: BatchAsk,
+) -> Said
+    requires whole { IsWhole served.old.farm }
+    requires free { open_at served.old.farm.requests 0 ≡ None }
+    requires few { length ask.drawn.items ≤ jobs_max }
+    requires empty { ask.jobs.items ≡ [] }
+    requires room { length ask.drawn.items ≤ ask.jobs.cap }
+    ensures { ServesBatch K.content K.faults map_of served.old.farm served.new.farm served.old.sent served.new.sent
+        at.now (wire_seen (W.carried wire.old) (W.refused wire.old) (W.empty wire.old))
+        (wire_seen (W.carried wire.new) (W.refused wire.new) (W.empty wire.new))
+        (view_of ask.view) (map pair_of ask.drawn.items) (said_outcome ask.view.title result) }
+{
+    keep_house(served, at, wire);
+    make_batch(rt, alloc, &mut served.farm, at, ask)
+}
+
+/// A batch after its housekeeping: the first title's view waits and tells its need, and then there is a round.
+fn make_batch<R: Threads + Sync, K: Keeper>(
+    rt: &R,
+    alloc: Global,
+    farm: &mut Farm<K, SlotCache<Page>>,
+    at: &Readings,
+    ask: BatchAsk,
+) -> Said
+    requires whole { IsWhole farm.old }
+    requires free { open_at farm.old.requests 0 ≡ None }
+    requires few { length ask.drawn.items ≤ jobs_max }
+    requires empty { ask.jobs.items ≡ [] }
+    requires room { length ask.drawn.items ≤ ask.jobs.cap }
+    ensures { MakesBatch K.content K.faults map_of farm.old farm.new at.now (view_of ask.view)
+        (map pair_of ask.drawn.items) (said_outcome ask.view.title result) }
+{
+    let BatchAsk { view, drawn, jobs } = ask;
+    let region = region_of(&view);
+    match find_need(farm, at, view) {
+        Ok(need) => {
+            let jobs = view_jobs(drawn, need, jobs);
+            let at = *at;
+            match round(rt, alloc, farm, RoundAsk { region, jobs, at }, &OpenGate) {
+                Ok(answers) => Said::Many(answers),
+                Err(_) => Said::One(Answer::Memory),
+            }
+        }
+        Err(answer) => Said::One(answer),
+    }
+}
+
+/// The region of a view.
+fn region_of(view: &ViewAsk) -> Region
+    ensures { result ≡ region_of (view_of view.now) }
+{
+    if view.use_master {
+        Region::Home
+    } else {
+        view.host
+    }
+}
+
+/// The need of a view after it has waited, which then is no longer open. If it ends before, its answer.
+fn find_need<K: Keeper>(
+    farm: &mut Farm<K, SlotCache<Page>>,
+    at: &Readings,
+    view: ViewAsk,
+) -> Result<u64, Answer>
+    requires free { open_at farm.old.requests 0 ≡ None }
+    ensures { FindsNeed K.content K.faults map_of farm.old farm.new at.now (view_of view) result }
+{
+    let opened = farm.arrive(*at, 0, of_view(view));
+    if let Some(answer) = opened {
+        return Err(answer);
+    }
+    let waited = farm.wait(*at, 0, true);
+    if let Some(answer) = waited {
+        return Err(answer);
+    }
+    let Some(need) = farm.need(*at, 0) else {
+        unreachable!()
+    };
+    Ok(need)
+}
+
+/// The jobs of these titles, with this need. There is room for them.
+fn view_jobs(drawn: Vec<Drawn>, need: u64, room: Vec<Job>) -> Vec<Job>
+    requires empty { room.items ≡ [] }
+    requires room { length drawn.items ≤ room.cap }
+    ensures { result.items ≡ map (job_at need) drawn.items }
+{
+    let mut jobs = room;
+    for one in drawn {
+        push_job(&mut jobs, need, one);
+    }
+    jobs
+}
+
+/// Adds the job of one more title. There is room for it.
+fn push_job(jobs: &mut Vec<Job>, need: u64, one: Drawn)
+    requires room { length jobs.old.items < jobs.old.cap }
+    ensures room { jobs.old.cap ≤ jobs.new.cap }
+    ensures pushed { jobs.new.items ≡ jobs.old.items ++ job_at need one ∷ [] }
+{
+    let Drawn { title, word } = one;
+    let job = Job::View(ViewJob { title, need, word });
+    let Ok(()) = jobs.push(job) else {
+        unreachable!()
+    };
+}
