@@ -289,14 +289,18 @@ def wants_documented(reply, statuses, of_head=False):
     wants(reply.status in statuses, f"{reply}: no such status in docs/HTTP.md")
     phrase, bodies = statuses[reply.status]
     wants(reply.phrase == phrase, f"{reply.status} is {reply.phrase!r}, and in docs/HTTP.md {phrase!r}")
-    is_page = None in bodies
-    kind = "text/html; charset=utf-8" if is_page else "text/plain; charset=utf-8"
+    plain = "text/plain; charset=utf-8"
+    is_batch = reply.status == 200 and reply.named["content-type"] == plain
+    is_page = None in bodies and not is_batch
+    kind = "text/html; charset=utf-8" if is_page else plain
     wants(reply.named["content-type"] == kind, f"{reply}: Content-Type is {reply.named['content-type']}")
-    if not is_page and not of_head:
+    if is_batch:
+        wants(of_head or re.match(rb"1 (ok|no-page|memory)\b", reply.body), f"{reply}: no page and no batch")
+    elif not is_page and not of_head:
         text = reply.body.decode()
         wants(any(shape.fullmatch(text) for shape in bodies), f"{reply.status} has the body {text!r}, which is not in docs/HTTP.md")
     extra = [name for name, _ in reply.fields[2:-1]]
-    wanted = {200: [["Wiki-Source", "Wiki-From", "Wiki-Lagged"]], 303: [["Location"] + ["Set-Cookie"] * 3], 405: [["Allow"]],
+    wanted = {200: [[]] if is_batch else [["Wiki-Source", "Wiki-From", "Wiki-Lagged"]], 303: [["Location"] + ["Set-Cookie"] * 3], 405: [["Allow"]],
               404: [[], ["Wiki-Source"]]}
     wants(extra in wanted.get(reply.status, [[]]), f"{reply}: its fields are {extra}")
 
