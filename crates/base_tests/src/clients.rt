@@ -33,11 +33,9 @@ fn a_token_has_at_most_64_bytes(rt: HostRuntime) -> Result<(), Fail> {
 }
 
 #[test]
-fn tokens_are_ordered_by_their_bytes(rt: HostRuntime) -> Result<(), Fail> {
-    let one = Token::parse(rt.alloc(), "t-1")?;
-    let two = Token::parse(rt.alloc(), "t-2")?;
-    assert!(rt; one < two && one != two);
-    assert!(rt; one.clone()? == one);
+fn a_token_hands_its_text_on(rt: HostRuntime) -> Result<(), Fail> {
+    let token = Token::parse(rt.alloc(), "t-1")?;
+    assert_eq!(rt; token.clone()?.into_text().as_str(), "t-1");
     Ok(())
 }
 

@@ -36,8 +36,8 @@ pub trait Conn: Source + Sink {
         ensures reading_peer { (Self.reading_half self.now).peer ≡ peer self.now };
 }
 
-/// Writes all of two pieces, one behind the other, in one call if the connection takes both at once. If a write fails, a
-/// prefix of them was written.
+/// Writes all of two pieces, the second after the first, in one call if the connection takes both at once. If a write
+/// fails, a prefix of them was written.
 pub fn write_both<X: Conn>(conn: &mut X, first: &[u8], second: &[u8]) -> Result<(), OutFault>
     ensures ok { OnOk result (Adds (X.written conn.old) (X.written conn.new) (first.now ++ second.now)) }
     ensures prefix { AddsPrefix (X.written conn.old) (X.written conn.new) (first.now ++ second.now) }

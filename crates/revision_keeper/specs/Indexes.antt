@@ -1,6 +1,8 @@
 -- The ordered indexes over a list of entries: what they hold, and when they agree with the list.
 use Rattle.std.specs.Prelude.{◌≡◌, ℕ, ◌+◌, ◌-◌, ◌≤◌, ◌&&◌, if◌then◌else◌, List, [], ◌∷◌, ◌++◌, map, filter, take, length, Option, Some, unwrap_or, option_map, option_and_then, nat_le, bytes_eq, ⊤}
-use Rattle.std.specs.BTreeMap.{BTreeMap, get}
+use Rattle.std.specs.BTreeMap.{BTreeMap, get, get_by_text}
+use Rattle.std.specs.declared.alloc.Global.{Global}
+use Rattle.std.specs.declared.string.String.{String}
 use Rattle.wiki_model.specs.Bytes.{last_of}
 use Rattle.wiki_model.specs.Titles.{Title, Client, Token}
 use Rattle.wiki_model.specs.History.{Entry, Numbered, IsHistory, commits_on, commit_with_token, number_of}
@@ -34,7 +36,8 @@ abbrev pub writes_in : ClientIndex → Client → Writes
 writes_in index client = unwrap_or (option_map (λ row. row.writes) (get bytes_cmp index.rows client)) no_writes
 
 abbrev pub number_in : ClientIndex → Client → Token → Option ℕ
-number_in index client token = option_and_then (λ row. get bytes_cmp row.tokens token) (get bytes_cmp index.rows client)
+number_in index client token =
+    option_and_then (λ row. get_by_text row.tokens token) (get bytes_cmp index.rows client)
 
 -- nothing that is held changes
 
@@ -56,9 +59,9 @@ abbrev pub one_more : Writes → (number stamp : ℕ) → Writes
 one_more writes number stamp = record { count = writes.count + 1; last = number; stamp = stamp }
 
 -- one token has this number, and the others have what they had
-abbrev pub AddsToken : (old new : BTreeMap Token ℕ) → Token → (number : ℕ) → Type 0
+abbrev pub AddsToken : (old new : BTreeMap (String Global) ℕ) → Token → (number : ℕ) → Type 0
 AddsToken old new token number =
-    (t : Token) → get bytes_cmp new t ≡ (if bytes_eq token t then Some number else get bytes_cmp old t)
+    (t : Token) → get_by_text new t ≡ (if bytes_eq token t then Some number else get_by_text old t)
 
 -- one title loses its last number
 abbrev pub DropsNumber : (old new : TitleIndex) → Title → Type 0

@@ -15,8 +15,8 @@ use wiki_titles::{ClientId, Token};
 #[derive(Debug, Drop)]
 pub struct ClientRow {
     writes: Writes,
-    /// The number of the commit with each token.
-    tokens: BTreeMap<Token, u64>,
+    /// The number of the commit with each token, by its text.
+    tokens: BTreeMap<String, u64>,
 }
 
 /// Each client's commits. A client without commits may have an empty row.
@@ -50,7 +50,7 @@ impl ClientRow {
         ensures writes_stay { OnErr result (self.new.writes ≡ self.old.writes) }
         ensures tokens_stay { OnErr result (self.new.tokens.entries ≡ self.old.tokens.entries) }
     {
-        self.tokens.insert(token, number)?;
+        self.tokens.insert(token.into_text(), number)?;
         self.writes = Writes {
             count: self.writes.count + 1,
             last: number,
@@ -86,7 +86,7 @@ impl ClientIndex {
         ensures { result ≡ number_in self.now client.now token.now }
     {
         match self.rows.get(client) {
-            Some(row) => row.tokens.get(token).copied(),
+            Some(row) => row.tokens.get(token.text()).copied(),
             None => None,
         }
     }

@@ -192,66 +192,42 @@ fn commit_of(alloc: Global, title: &str, token: &str, n: Numbers) -> Result<Entr
     })
 }
 
-// Entries that no row takes: a number or a stamp past its limit, a title's first commit again, a later one of a title
-// without a first, a revision again, and a token again.
+const NO_NUMBERS: [Numbers; 7] = [
+    Numbers {
+        stamp: MOMENT_MAX + 1,
+        ..NEXT
+    },
+    Numbers {
+        purge: OVER,
+        ..NEXT
+    },
+    Numbers {
+        revision: OVER,
+        ..NEXT
+    },
+    Numbers {
+        index: OVER,
+        ..NEXT
+    },
+    Numbers { base: OVER, ..NEXT },
+    Numbers {
+        revision: 1,
+        ..NEXT
+    },
+    Numbers {
+        revision: 2,
+        ..NEXT
+    },
+];
+
+// Entries that no row takes: a number or a stamp past its limit, a title's first commit again, a revision again, a later
+// one of a title without a first, and a token again.
 fn refused_entries(alloc: Global) -> Result<Vec<Entry>, Fail> {
     let mut made = Vec::new(alloc);
-    made.push(commit_of(
-        alloc,
-        "A",
-        "t3",
-        Numbers {
-            stamp: MOMENT_MAX + 1,
-            ..NEXT
-        },
-    )?)?;
-    made.push(commit_of(
-        alloc,
-        "A",
-        "t3",
-        Numbers {
-            purge: OVER,
-            ..NEXT
-        },
-    )?)?;
-    made.push(commit_of(
-        alloc,
-        "A",
-        "t3",
-        Numbers {
-            revision: OVER,
-            ..NEXT
-        },
-    )?)?;
-    made.push(commit_of(
-        alloc,
-        "A",
-        "t3",
-        Numbers {
-            index: OVER,
-            ..NEXT
-        },
-    )?)?;
-    made.push(commit_of(alloc, "A", "t3", Numbers { base: OVER, ..NEXT })?)?;
-    made.push(commit_of(
-        alloc,
-        "A",
-        "t3",
-        Numbers {
-            revision: 1,
-            ..NEXT
-        },
-    )?)?;
+    for numbers in NO_NUMBERS {
+        made.push(commit_of(alloc, "A", "t3", numbers)?)?;
+    }
     made.push(commit_of(alloc, "B", "t3", NEXT)?)?;
-    made.push(commit_of(
-        alloc,
-        "A",
-        "t3",
-        Numbers {
-            revision: 2,
-            ..NEXT
-        },
-    )?)?;
     made.push(commit_of(alloc, "A", "t2", NEXT)?)?;
     Ok(made)
 }

@@ -1,4 +1,4 @@
--- The order of titles and of tokens: that of their bytes.
+-- The order of titles, and of tokens in an index: that of their bytes.
 use Rattle.std.specs.Prelude.{ℕ, List}
 use Rattle.std.specs.declared.cmp.Ordering.{Ordering}
 use Rattle.std.specs.Ordering.{nat_cmp}

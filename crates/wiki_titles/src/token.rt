@@ -1,23 +1,19 @@
-// Tokens: reading one, and how tokens compare.
-ghost use Rattle.std.specs.Prelude.{◌≡◌, ℕ, ◌==◌, ◌||◌, List, IsTrue, Some, refl, bytes_eq};
+// Tokens: reading one.
+ghost use Rattle.std.specs.Prelude.{◌≡◌, ◌==◌, ◌||◌, IsTrue};
 ghost use Rattle.std.specs.List.{list_all};
 ghost use Rattle.std.specs.String.{string_bytes};
-ghost use Rattle.std.specs.Cmp as Cmp;
-ghost use Rattle.std.specs.Cmp.Lexicographic.{nat_list_eq_equiv, nat_list_cmp_total, texts_po, texts_ties};
 ghost use Rattle.wiki_model.specs.Titles.{is_letter, is_digit, is_token};
-ghost use Rattle.wiki_titles.specs.Order.{bytes_cmp};
 ghost use Rattle.wiki_titles.specs.Token.{ReadsToken};
 
 use farm_base::bytes::{is_digit, is_letter};
 use std::alloc::{AllocError, Global};
-use std::cmp::Ordering;
 use std::fmt;
 use std::marker::Model;
 
 /// The greatest length of a token.
 pub const TOKEN_MAX: usize = 64; // bytes
 
-/// An edit token: 1 to [`TOKEN_MAX`] bytes of ASCII letters, digits, `-` and `_`. Tokens are ordered by their bytes.
+/// An edit token: 1 to [`TOKEN_MAX`] bytes of ASCII letters, digits, `-` and `_`.
 #[derive(Clone, Debug, Drop)]
 pub struct Token {
     text: String,
@@ -55,43 +51,12 @@ impl Token {
     {
         self.text.as_str()
     }
-}
 
-impl PartialEq for Token {
-    ghost eq = { bytes_eq };
-
-    ghost laws = { Cmp.partial_equiv_from_equiv nat_list_eq_equiv };
-
-    fn eq(&self, other: &Self) -> bool {
-        self.text() == other.text()
-    }
-}
-
-impl Eq for Token {
-    ghost laws = { nat_list_eq_equiv };
-}
-
-impl PartialOrd for Token {
-    ghost partial_cmp = { λ x y. Some (bytes_cmp x y) };
-
-    ghost laws = { texts_po };
-
-    fn partial_cmp(&self, other: &Self) -> Option<Ordering> {
-        Some(self.cmp(other))
-    }
-}
-
-impl Ord for Token {
-    ghost cmp = { bytes_cmp };
-
-    ghost total = { nat_list_cmp_total };
-
-    ghost matches_partial_cmp = { λ x y. refl };
-
-    ghost matches_eq = { texts_ties };
-
-    fn cmp(&self, other: &Self) -> Ordering {
-        self.text().cmp(other.text())
+    /// The token's bytes, taken out of it.
+    pub fn into_text(self) -> String
+        ensures { string_bytes result ≡ self }
+    {
+        self.text
     }
 }
 

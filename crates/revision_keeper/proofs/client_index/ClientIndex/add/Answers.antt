@@ -1,8 +1,9 @@
 use Rattle.std.proofs.Common.{◌≡◌, ℕ, Some, Option, cond, unwrap_or, option_map, sym, ap, ◌∙◌}
 use Rattle.std.specs.Prelude.{option_and_then, bytes_eq}
 use Rattle.std.specs.Option.{option_copied_mut}
-use Rattle.std.specs.BTreeMap.{get, is_at}
+use Rattle.std.specs.BTreeMap.{get, get_by_text, is_at}
 use Rattle.std.specs.Map.{lookup}
+use Rattle.std.specs.String.{string_bytes}
 use Rattle.wiki_titles.specs.Order.{bytes_cmp}
 use Rattle.wiki_model.specs.Titles.{Token}
 use Rattle.commit_feed.specs.declared.feed.Writes.{Writes}
@@ -16,7 +17,7 @@ abbrev writes_seen : Option ClientRow → Writes
 writes_seen o = unwrap_or (option_map (λ row. row.writes) o) no_writes
 
 abbrev number_seen : Token → Option ClientRow → Option ℕ
-number_seen t o = option_and_then (λ row. get bytes_cmp row.tokens t) o
+number_seen t o = option_and_then (λ row. get_by_text row.tokens t) o
 
 pub returns-in-Some-clause-ok : goal.returns-in-Some-clause-ok
 returns-in-Some-clause-ok c =
@@ -49,6 +50,6 @@ returns-in-Some-clause-err c =
     on_err_both c.add.result
     (λ writes tokens. record {
       writes = λ k. row_same writes_seen rows grown client k row (updates.0 k) (writes ∙ sym (ap writes_seen found));
-      tokens = λ k t. row_same (number_seen t) rows grown client k row (updates.0 k) (ap (lookup (is_at (bytes_cmp t))) tokens ∙ sym (ap (number_seen t) found));
+      tokens = λ k t. row_same (number_seen t) rows grown client k row (updates.0 k) (ap (lookup (is_at (λ k. bytes_cmp t (string_bytes k)))) tokens ∙ sym (ap (number_seen t) found));
     })
     c.add.ensures.writes_stay c.add.ensures.tokens_stay

@@ -1,7 +1,8 @@
 use Rattle.std.proofs.Common.{rules, ◌≡◌, ℕ, Some, None, Option, unwrap_or, option_map, sym, ap, ◌∙◌}
 use Rattle.std.specs.Prelude.{option_and_then}
-use Rattle.std.specs.BTreeMap.{get, is_at}
+use Rattle.std.specs.BTreeMap.{get, get_by_text, is_at}
 use Rattle.std.specs.Map.{lookup}
+use Rattle.std.specs.String.{string_bytes}
 use Rattle.wiki_titles.specs.Order.{bytes_cmp}
 use Rattle.wiki_model.specs.Titles.{Token}
 use Rattle.commit_feed.specs.declared.feed.Writes.{Writes}
@@ -15,7 +16,7 @@ abbrev writes_seen : Option ClientRow → Writes
 writes_seen o = unwrap_or (option_map (λ row. row.writes) o) no_writes
 
 abbrev number_seen : Token → Option ClientRow → Option ℕ
-number_seen t o = option_and_then (λ row. get bytes_cmp row.tokens t) o
+number_seen t o = option_and_then (λ row. get_by_text row.tokens t) o
 
 pub returns-in_ok-insert-clause-same : goal.returns-in_ok-insert-clause-same
 returns-in_ok-insert-clause-same c =
@@ -26,5 +27,5 @@ returns-in_ok-insert-clause-same c =
     let updates = c.in_ok-insert.ensures.updates in
     record {
       writes = λ k. row_same writes_seen rows c.insert.new.self client k row (updates.0 k) (c.new.ensures.writes ∙ sym (ap writes_seen none));
-      tokens = λ k t. row_same (number_seen t) rows c.insert.new.self client k row (updates.0 k) (ap (lookup (is_at (bytes_cmp t))) c.new.ensures.tokens ∙ sym (ap (number_seen t) none));
+      tokens = λ k t. row_same (number_seen t) rows c.insert.new.self client k row (updates.0 k) (ap (lookup (is_at (λ k. bytes_cmp t (string_bytes k)))) c.new.ensures.tokens ∙ sym (ap (number_seen t) none));
     }
