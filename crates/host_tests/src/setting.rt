@@ -65,7 +65,7 @@ pub fn host_on<R: Threads + Sync, K: Keeper + Drop>(
 ) -> Hosted<K> {
     let mut lots = MemLots::new(Vec::new(alloc), 0);
     let mut wire = FarmWire::new(alloc);
-    serve_door(rt, alloc, host, door, clock, &mut lots, &mut wire)
+    serve_door(&(rt, alloc), host, door, clock, &mut lots, &mut wire)
 }
 
 /// How a hosting by this layout ended, over an empty history at 5,000, with two connections that ask for nothing.

@@ -97,7 +97,7 @@ pub fn serve_by<R: Threads + Sync, K: Keeper, W: Wire>(
         return Err(Fail::new("the farm is not ready to be served"));
     }
     let mut lots = MemLots::new(Vec::new(alloc), 0);
-    Ok(serve_conn(rt, alloc, served, conn, clock, &mut lots, wire))
+    Ok(serve_conn(&(rt, alloc), served, conn, clock, &mut lots, wire))
 }
 
 /// What one connection wrote, and how it ended.

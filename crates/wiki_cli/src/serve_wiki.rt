@@ -187,8 +187,7 @@ where
         (Rose (K.faults host.keeper) (K.faults result.keeper)) result.status }
 {
     let hosted = serve_door(
-        rt,
-        alloc,
+        &(rt, alloc),
         host,
         &mut outside.door,
         &mut outside.clock,

@@ -13,7 +13,6 @@ use farm_core::Page;
 use purge_relay::Wire;
 use revision_keeper::Keeper;
 use slot_cache::SlotCache;
-use std::alloc::Global;
 use std::thread::Threads;
 use wan_cache::RegionStore;
 use wiki_serve::{ServedFarm, serve_conn};
@@ -38,7 +37,6 @@ pub enum Next {
 /// if the door does.
 pub fn serve_visits<R, D, K, C, L, W>(
     rt: &R,
-    alloc: Global,
     host: &mut OpenHost<K, SlotCache<Page>>,
     door: &mut D,
     clock: &mut C,
@@ -46,7 +44,7 @@ pub fn serve_visits<R, D, K, C, L, W>(
     wire: &mut W,
 ) -> Result<u64, OutFault>
 where
-    R: Threads + Sync,
+    R: AllocGlobal + Threads + Sync,
     D: Door,
     K: Keeper + Drop,
     C: Clock,
@@ -73,7 +71,7 @@ where
     ensures counts { K.faults host.old.served.farm.keeper ≤ K.faults host.new.served.farm.keeper }
 {
     for connections in 0..host.wanted {
-        match serve_next(rt, alloc, &mut host.served, door, clock, lots, wire) {
+        match serve_next(rt, &mut host.served, door, clock, lots, wire) {
             Ok(Next::Served) => {}
             Ok(Next::NoneLeft) => return Ok(connections),
             Err(fault) => return Err(fault),
@@ -85,7 +83,6 @@ where
 // Serves the door's next connection to its end, and hands it back.
 fn serve_next<R, D, K, C, L, W>(
     rt: &R,
-    alloc: Global,
     served: &mut ServedFarm<K, SlotCache<Page>>,
     door: &mut D,
     clock: &mut C,
@@ -93,7 +90,7 @@ fn serve_next<R, D, K, C, L, W>(
     wire: &mut W,
 ) -> Result<Next, OutFault>
 where
-    R: Threads + Sync,
+    R: AllocGlobal + Threads + Sync,
     D: Door,
     K: Keeper + Drop,
     C: Clock,
@@ -122,7 +119,7 @@ where
     match door.next() {
         Ok(Some(conn)) => {
             let mut conn = conn;
-            serve_conn(rt, alloc, served, &mut conn, clock, lots, wire);
+            serve_conn(rt, served, &mut conn, clock, lots, wire);
             door.done(conn);
             Ok(Next::Served)
         }

@@ -17,7 +17,6 @@ use farm_core::Page;
 use purge_relay::Wire;
 use revision_keeper::Keeper;
 use slot_cache::SlotCache;
-use std::alloc::Global;
 use std::thread::Threads;
 
 /// What is to be hosted.
@@ -60,7 +59,6 @@ pub struct Hosted<K: Drop> {
 /// after as many as are wanted.
 pub fn serve_door<R, D, K, C, L, W>(
     rt: &R,
-    alloc: Global,
     host: Host<K>,
     door: &mut D,
     clock: &mut C,
@@ -68,7 +66,7 @@ pub fn serve_door<R, D, K, C, L, W>(
     wire: &mut W,
 ) -> Hosted<K>
 where
-    R: Threads + Sync,
+    R: AllocGlobal + Threads + Sync,
     D: Door,
     K: Keeper + Drop,
     C: Clock,
@@ -94,16 +92,8 @@ where
         layout,
         wanted,
     } = host;
-    match open_layout(alloc, keeper, &layout, clock) {
-        Ok(served) => serve_open(
-            rt,
-            alloc,
-            OpenHost { served, wanted },
-            door,
-            clock,
-            lots,
-            wire,
-        ),
+    match open_layout(rt.alloc(), keeper, &layout, clock) {
+        Ok(served) => serve_open(rt, OpenHost { served, wanted }, door, clock, lots, wire),
         Err(hosted) => hosted,
     }
 }
@@ -111,7 +101,6 @@ where
 // Serves the connections on the farm that was opened, and closes it.
 fn serve_open<R, D, K, C, L, W>(
     rt: &R,
-    alloc: Global,
     host: OpenHost<K, SlotCache<Page>>,
     door: &mut D,
     clock: &mut C,
@@ -119,7 +108,7 @@ fn serve_open<R, D, K, C, L, W>(
     wire: &mut W,
 ) -> Hosted<K>
 where
-    R: Threads + Sync,
+    R: AllocGlobal + Threads + Sync,
     D: Door,
     K: Keeper + Drop,
     C: Clock,
@@ -143,7 +132,7 @@ where
     ensures counts { K.faults host.served.farm.keeper ≤ K.faults result.keeper }
 {
     let mut host = host;
-    let visited = serve_visits(rt, alloc, &mut host, door, clock, lots, wire);
+    let visited = serve_visits(rt, &mut host, door, clock, lots, wire);
     let OpenHost { served, .. } = host;
     let (keeper, _, _) = served.farm.close();
     Hosted {

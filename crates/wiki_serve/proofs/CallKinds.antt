@@ -19,8 +19,10 @@ use Rattle.wiki_model.specs.Serving.{ServesOne}
 use Rattle.wiki_model.specs.Asking.{Request, Call, PageCall, EditCall, BatchCall, FeedCall, MessagesCall}
 use Rattle.farm_base.specs.Series.{Series, Gives}
 use Rattle.region_state.specs.declared.answer.Answer.{Answer as CodeAnswer}
-use Rattle.region_state.specs.AsModel.{answer_of}
+use Rattle.region_state.specs.AsModel.{answer_of, view_of}
+use Rattle.sticky_routes.specs.AsModel.{cookie_of}
 use Rattle.region_round.specs.AsModel.{answers_of}
+use Rattle.wiki_serve.specs.declared.callers.Caller.{Caller}
 use Rattle.wiki_serve.specs.declared.serve_batch.BatchRoom.{BatchRoom}
 use Rattle.wiki_serve.specs.declared.serve_batch.Drawn.{Drawn}
 use Rattle.wiki_serve.specs.declared.serve_batch.Said.{Said}
@@ -31,7 +33,7 @@ use Rattle.farm_steps.specs.RequestMap.{open_at}
 use Rattle.farm_core.specs.Agreement.{Agrees}
 use Rattle.wiki_serve.specs.Exchanges.{Outcome, Answered, Listed, Service}
 use Rattle.wiki_serve.specs.Replies.{location_of, answer_reply}
-use Rattle.wiki_serve.specs.Callers.{Desk, region_of, moment_for, view_for, edit_for, live_cookie, client_of_cookie, client_for, stranger_of}
+use Rattle.wiki_serve.specs.Callers.{Desk, region_of, moment_for, view_for, edit_for, live_cookie, client_of_cookie, client_for, stranger_of, view_by}
 use Rattle.wiki_serve.specs.Services.{DoesCall}
 use Rattle.wiki_serve.specs.Turns.{FitsAsked, MakesAnswer}
 use Rattle.wiki_serve.specs.Housework.{WireSeen, DoesHousework, ServesAsked}
@@ -85,7 +87,7 @@ first_drawn (d ∷ drawn) titles title word are first_title first_word =
 
 -- the view of a request, and its edit, as they are put together
 
-pub view_same : (desk : Desk) (now after word : ℕ) (request : Request) (title : Title) (host : Region) (client stranger : Client) (cookie : Option Cookie)
+view_same : (desk : Desk) (now after word : ℕ) (request : Request) (title : Title) (host : Region) (client stranger : Client) (cookie : Option Cookie)
     → now ≡ after → host ≡ region_of_host request.host → cookie ≡ live_cookie now request → client ≡ client_of_cookie cookie stranger → stranger ≡ stranger_of desk.peer request.agent
     → (let view : View = record { host = host; client = client; cookie = cookie; use_master = request.cookies.use_master; word = word; title = title } in view) ≡ view_for desk after request word title
 view_same desk now after word request title host client stranger cookie now_is host_is cookie_is client_is from =
@@ -94,6 +96,14 @@ view_same desk now after word request title host client stranger cookie now_is h
     ap (λ (h : Region). let view : View = record { host = h; client = client; cookie = cookie; use_master = request.cookies.use_master; word = word; title = title } in view) host_is
     ∙ ap (λ (c : Client). let view : View = record { host = region_of_host request.host; client = c; cookie = cookie; use_master = request.cookies.use_master; word = word; title = title } in view) named
     ∙ ap (λ (k : Option Cookie). let view : View = record { host = region_of_host request.host; client = client_for desk after request; cookie = k; use_master = request.cookies.use_master; word = word; title = title } in view) kept
+
+-- the view of a caller is that of the request
+pub view_called : (desk : Desk) (now after word : ℕ) (request : Request) (title : Title) (caller : Caller) (stranger : Client)
+    → now ≡ after → caller.host ≡ region_of_host request.host → option_map cookie_of caller.cookie ≡ live_cookie now request → caller.client ≡ client_of_cookie (option_map cookie_of caller.cookie) stranger
+    → caller.use_master ≡ request.cookies.use_master → stranger ≡ stranger_of desk.peer request.agent → view_of (view_by caller word title) ≡ view_for desk after request word title
+view_called desk now after word request title caller stranger now_is host_is cookie_is client_is master_is from =
+    ap (λ (m : Bool). let view : View = record { host = caller.host; client = caller.client; cookie = option_map cookie_of caller.cookie; use_master = m; word = word; title = title } in view) master_is
+    ∙ view_same desk now after word request title caller.host caller.client stranger (option_map cookie_of caller.cookie) now_is host_is cookie_is client_is from
 
 pub edit_same : (desk : Desk) (now after base : ℕ) (request : Request) (title : Title) (token text : Bytes) (client stranger : Client) (cookie : Option Cookie)
     → now ≡ after → cookie ≡ live_cookie now request → client ≡ client_of_cookie cookie stranger → stranger ≡ stranger_of desk.peer request.agent

@@ -10,6 +10,8 @@ use Rattle.wiki_model.specs.Sessions.{if_live}
 use Rattle.wiki_model.specs.Cookies.{region_of_host, route}
 use Rattle.wiki_model.specs.Asking.{Call, EditCall, PageCall, BatchCall, FeedCall, MessagesCall, Request}
 use Rattle.wiki_titles.specs.ClientId.{client_after}
+use Rattle.region_state.specs.declared.ask.ViewAsk.{ViewAsk}
+use Rattle.wiki_serve.specs.declared.callers.Caller.{Caller}
 
 -- what a connection and its farm have for good: the other end's address, and how many entries a replica applies
 pub record Desk : Type 0 where
@@ -51,6 +53,17 @@ view_for desk now request word title = record {
   client = client_for desk now request;
   cookie = live_cookie now request;
   use_master = request.cookies.use_master;
+  word = word;
+  title = title;
+}
+
+-- the caller's view of a title, with this word
+abbrev pub view_by : Caller → (word : ℕ) → Title → ViewAsk
+view_by caller word title = record {
+  host = caller.host;
+  client = caller.client;
+  cookie = caller.cookie;
+  use_master = caller.use_master;
   word = word;
   title = title;
 }

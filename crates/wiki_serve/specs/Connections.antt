@@ -1,12 +1,14 @@
 -- One connection from its first byte to its end.
-use Rattle.std.specs.Prelude.{ℕ, ◌≡◌, ◌⊎◌, ◌<◌, Bool, true, false, List, [], ◌∷◌, ◌++◌, length, reverse, All, Option, IfSome}
+use Rattle.std.specs.Prelude.{ℕ, ◌≡◌, ◌⊎◌, ◌<◌, Bool, true, false, List, [], ◌∷◌, ◌++◌, length, reverse, All, Option}
+use Rattle.std.specs.Prelude.{IfSome}
 use Rattle.wiki_model.specs.Bytes.{Bytes}
 use Rattle.wiki_model.specs.Limits.{requests_max}
 use Rattle.wiki_model.specs.World.{World}
 use Rattle.wiki_model.specs.Steps.{Rose}
 use Rattle.wiki_model.specs.Runs.{Turn}
 use Rattle.http_desk.specs.Incoming.{Cut, Reads}
-use Rattle.wiki_serve.specs.Exchanges.{Exchange, Service, Heard, AreHeard, services, turns_of, incoming_of, closes, response, responses}
+use Rattle.wiki_serve.specs.Exchanges.{Exchange, Service, Heard, AreHeard, services, turns_of, incoming_of, closes}
+use Rattle.wiki_serve.specs.Exchanges.{response, responses}
 use Rattle.wiki_serve.specs.Callers.{Desk}
 use Rattle.wiki_serve.specs.Services.{Held, DoesOne, DoesAll}
 
@@ -68,7 +70,8 @@ BreaksOff exchanges written Of =
 
 -- If a connection ends like this after these exchanges, with rest left of its input: what was written. The two types
 -- say that its count for reads, and for writes, rose.
-abbrev pub EndsBy : (read_failed write_failed : Type 0) → List (Exchange Service) → (rest written : Bytes) → End → Type 0
+abbrev pub EndsBy : (read_failed write_failed : Type 0) → List (Exchange Service) → (rest written : Bytes) → End
+    → Type 0
 EndsBy read_failed write_failed exchanges rest written Closed =
     MayGoOn exchanges × (rest ≡ []) × (written ≡ responses exchanges)
 EndsBy read_failed write_failed exchanges rest written CutOff =

@@ -1,5 +1,6 @@
 -- The exchanges of one connection: each request with what was done for it, and its response.
-use Rattle.std.specs.Prelude.{ℕ, zero, suc, ◌≡◌, ◌+◌, ◌==◌, ◌||◌, Bool, if◌then◌else◌, List, [], ◌∷◌, ◌++◌, map, flat_map, Option, Some, option_map}
+use Rattle.std.specs.Prelude.{ℕ, zero, suc, ◌≡◌, ◌+◌, ◌==◌, ◌||◌, Bool, if◌then◌else◌, List, [], ◌∷◌, ◌++◌, map}
+use Rattle.std.specs.Prelude.{flat_map, Option, Some, option_map}
 use Rattle.farm_base.specs.Causes.{counted}
 use Rattle.farm_base.specs.Series.{Series, Gives}
 use Rattle.wiki_model.specs.declared.Readings.{Readings}

@@ -1,5 +1,6 @@
 -- The three parts of one exchange: what is read, what is done for it, and what is written.
-use Rattle.std.specs.Prelude.{ℕ, ◌≡◌, ◌≤◌, ◌==◌, ◌||◌, Bool, true, false, if◌then◌else◌, List, [], ◌∷◌, ◌++◌, reverse, Option, Some, None, option_map, string_bytes}
+use Rattle.std.specs.Prelude.{ℕ, ◌≡◌, ◌≤◌, ◌==◌, ◌||◌, Bool, true, false, if◌then◌else◌, List, [], ◌∷◌, ◌++◌, reverse}
+use Rattle.std.specs.Prelude.{Option, Some, None, option_map, string_bytes}
 use Rattle.farm_base.specs.Exposed.{AddsPrefix}
 use Rattle.wiki_model.specs.declared.Readings.{Readings}
 use Rattle.wiki_model.specs.Bytes.{Bytes}

@@ -7,7 +7,8 @@ use Rattle.wiki_model.specs.Bytes.{Bytes}
 use Rattle.wiki_model.specs.World.{World}
 use Rattle.wiki_model.specs.Runs.{Turn}
 use Rattle.http_desk.specs.Incoming.{Incoming, IsRead}
-use Rattle.wiki_serve.specs.Exchanges.{Exchange, Service, Heard, AreHeard, GivesAll, with_messages, services, turns_of, incoming_of, responses}
+use Rattle.wiki_serve.specs.Exchanges.{Exchange, Service, Heard, AreHeard, GivesAll, with_messages, services, turns_of}
+use Rattle.wiki_serve.specs.Exchanges.{incoming_of, responses}
 use Rattle.wiki_serve.specs.Callers.{Desk}
 use Rattle.wiki_serve.specs.Services.{DoesOne, DoesAll}
 use Rattle.wiki_serve.specs.Connections.{Conn, ReadsAll, MayGoOn}
@@ -49,13 +50,15 @@ pub record WritesTo (before now : Conn) (piece : Bytes) : Type 0 where
   pub written : Adds before.written now.written piece
 
 -- these exchanges were read from all that was left, and what is kept with what is left now is the rest
-abbrev pub HasReadAll : {A : Type 0} → (before : Option Bytes) → (kept : Bytes) → (now : Option Bytes) → List (Exchange A) → Type 0
+abbrev pub HasReadAll : {A : Type 0} → (before : Option Bytes) → (kept : Bytes) → (now : Option Bytes)
+    → List (Exchange A) → Type 0
 HasReadAll None kept now exchanges = Unit {0}
 HasReadAll (Some input) kept None exchanges = ⊥
 HasReadAll (Some input) kept (Some left) exchanges = ReadsAll input exchanges (kept ++ left)
 
 -- each run for which the farm stood goes on by the turns of these exchanges to one for which it stands
-abbrev pub GoesOnBy : Desk → (Stood Now : Standing) → (unsent_before unsent_now : List ℕ) → List (Exchange Service) → Type 0
+abbrev pub GoesOnBy : Desk → (Stood Now : Standing) → (unsent_before unsent_now : List ℕ) → List (Exchange Service)
+    → Type 0
 GoesOnBy desk Stood Now unsent_before unsent_now exchanges =
     (start : World) (turns : List Turn) (v : World) → Stood start turns v
     → (w : World) × Now start (reverse (turns_of exchanges) ++ turns) w
@@ -63,7 +66,8 @@ GoesOnBy desk Stood Now unsent_before unsent_now exchanges =
     (record { world = w; unsent = unsent_now })
 
 -- From one point to another there were these exchanges, and this text was written.
-pub record ServedSoFar (desk : Desk) (before now : Seen) (Stood Now : Standing) (exchanges : List (Exchange Service)) (text : Bytes) : Type 0 where
+pub record ServedSoFar (desk : Desk) (before now : Seen) (Stood Now : Standing) (exchanges : List (Exchange Service))
+    (text : Bytes) : Type 0 where
   pub later : IsLater before.conn now.conn
   pub read : HasReadAll before.conn.left now.kept now.conn.left exchanges
   pub written : Adds before.conn.written now.conn.written text

@@ -47,9 +47,8 @@ pub enum ConnEnd {
 ///
 /// The farm is ready for it: neither cache is lent, and no request is open under the number 0, which whole requests
 /// take. It is so again at the end.
-pub fn serve_conn<R: Threads + Sync, X: Conn, K: Keeper, C: Clock, L: Lots, W: Wire>(
+pub fn serve_conn<R: AllocGlobal + Threads + Sync, X: Conn, K: Keeper, C: Clock, L: Lots, W: Wire>(
     rt: &R,
-    alloc: Global,
     served: &mut ServedFarm<K, SlotCache<Page>>,
     conn: &mut X,
     clock: &mut C,
@@ -78,11 +77,12 @@ pub fn serve_conn<R: Threads + Sync, X: Conn, K: Keeper, C: Clock, L: Lots, W: W
     // The keeper's count of faults does not fall.
     ensures counts { K.faults served.old.farm.keeper ≤ K.faults served.new.farm.keeper }
 {
+    let alloc = rt.alloc();
     let mut kept = Vec::new(alloc);
     let mut answered = 0;
     'requests: loop {
         let arrival = read_arrival(alloc, conn, &mut kept);
-        let reaction = serve_arrival(rt, alloc, served, clock, lots, wire, arrival);
+        let reaction = serve_arrival(rt, served, clock, lots, wire, arrival);
         if let Some(end) = answer(alloc, conn, reaction, answered + 1) {
             return end;
         }

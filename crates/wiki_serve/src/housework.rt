@@ -7,7 +7,8 @@ ghost use Rattle.purge_relay.specs.AsModel.{body_of};
 ghost use Rattle.farm_steps.specs.ViewSteps.{region_at};
 ghost use Rattle.farm_core.specs.FarmParts.{IsWhole};
 ghost use Rattle.wiki_serve.specs.Turns.{MakesStep};
-ghost use Rattle.wiki_serve.specs.Housework.{IsRow, taken_of, wire_seen, SendsAll, TakesAll, BeatsIfDue, AppliesTo, DoesHousework};
+ghost use Rattle.wiki_serve.specs.Housework.{IsRow, taken_of, wire_seen, SendsAll, TakesAll, BeatsIfDue, AppliesTo};
+ghost use Rattle.wiki_serve.specs.Housework.{DoesHousework};
 ghost use Rattle.slot_cache.specs.AsModel.{map_of};
 
 use crate::served_farm::ServedFarm;

@@ -3,8 +3,8 @@
 //! A request is served in a fixed order, so that whoever reads the bytes of a connection can tell what the farm did.
 //! (1) A request is read. If it is refused, its refusal is the response, and the farm is not asked. (2) Else the clocks
 //! are read once, for all that follows. (3) The house is kept: messages that were not sent are given to the wire, those
-//! that came are carried, a beat is made if it is due, and each replica applies, home's first. (4) The request makes its
-//! own steps, up to its first answer; a batch ends with one round of all its titles. (5) The answer becomes the
+//! that came are carried, a beat is made if it is due, and each replica applies, home's first. (4) The request makes
+//! its own steps, up to its first answer; a batch ends with one round of all its titles. (5) The answer becomes the
 //! response. (6) The next request is read, until the connection ends ([`ConnEnd`]).
 //!
 //! The idea is one clause for the whole connection (`IsServed`): there is a list of exchanges, each a request with what
@@ -17,7 +17,7 @@
 //!
 //! ```text
 //! GET /wiki/Main_Page HTTP/1.1, Host: home.example     the steps arrive, wait, look, snap, store; 404 no-page source=1
-//! GET /batch?titles=A%7CB HTTP/1.1, Host: home.example the steps arrive, wait, need, a round; 200 1 no-page .. 2 no-page ..
+//! GET /batch?titles=A%7CB HTTP/1.1, Host: home.example the steps arrive, wait, need, a round; 200, a line a page
 //! end of input                                         ConnEnd::Closed
 //! ```
 #![tactic(auto)]

@@ -7,7 +7,8 @@ ghost use Rattle.region_state.specs.AsModel.{answer_of};
 ghost use Rattle.edit_core.specs.AsModel.{saved_of};
 ghost use Rattle.http_reply.specs.Reply.{head_of_length, answer_bytes, text_line};
 ghost use Rattle.http_reply.specs.AsModel.{lines_of, status_of};
-ghost use Rattle.wiki_serve.specs.Replies.{location_of, answer_status, answer_lines, page_lines, saved_lines, answer_reply, text_reply, source_lines};
+ghost use Rattle.wiki_serve.specs.Replies.{location_of, answer_status, answer_lines, page_lines, saved_lines};
+ghost use Rattle.wiki_serve.specs.Replies.{answer_reply, text_reply, source_lines};
 
 use drill_script::{answer_text, origin_text, page_bytes};
 use farm_base::Memory;

@@ -6,7 +6,8 @@ ghost use Rattle.wiki_model.specs.Report as report;
 ghost use Rattle.http_reply.specs.Reply as reply;
 ghost use Rattle.http_reply.specs.AsModel.{refusal_of};
 ghost use Rattle.wiki_serve.specs.Connections.{conn_seen};
-ghost use Rattle.wiki_serve.specs.Reactions.{Responds, WritesResponse, ended_of, reaction_closes, reaction_bytes, listed_body, page_part, end_after};
+ghost use Rattle.wiki_serve.specs.Reactions.{Responds, WritesResponse, ended_of, reaction_closes, reaction_bytes};
+ghost use Rattle.wiki_serve.specs.Reactions.{listed_body, page_part, end_after};
 
 use crate::connection::{ConnEnd, REQUESTS_MAX};
 use crate::list_answers::{batch_body, listed_head};

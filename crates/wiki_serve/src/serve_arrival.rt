@@ -4,7 +4,8 @@ ghost use Rattle.std.specs.String.{string_bytes};
 ghost use Rattle.wiki_model.specs.Bytes.{Bytes};
 ghost use Rattle.http_desk.specs.AsModel.{call_shown, request_shown};
 ghost use Rattle.wiki_serve.specs.Exchanges.{heard_seen};
-ghost use Rattle.wiki_serve.specs.Reactions.{IsFrom, IsLocationFor, DoesCallFor, outside_seen, ReactsTo, Reacts, desk_of};
+ghost use Rattle.wiki_serve.specs.Reactions.{IsFrom, IsLocationFor, DoesCallFor, outside_seen, ReactsTo, Reacts};
+ghost use Rattle.wiki_serve.specs.Reactions.{desk_of};
 ghost use Rattle.wiki_model.specs.World.Asked.{AskedView, AskedEdit};
 ghost use Rattle.edit_core.specs.AsModel.{edit_of};
 ghost use Rattle.region_state.specs.AsModel.{answer_of, view_of};
@@ -15,14 +16,12 @@ ghost use Rattle.farm_steps.specs.RequestMap.{open_at};
 ghost use Rattle.slot_cache.specs.AsModel.{map_of};
 
 use crate::asked_steps::{make_edit, make_view};
-use crate::callers::{Visit, client_of, live_cookie, moment_for};
+use crate::callers::{Visit, caller_of, moment_for, view_by};
 use crate::connection::ConnEnd;
 use crate::housework::keep_house;
 use crate::read_arrival::Arrival;
 use crate::replies::location_of;
-use crate::serve_batch::{
-    BatchAsk, BatchRoom, Said, draw_words, first_word, room_for, serve_batch,
-};
+use crate::serve_batch::{BatchRoom, Said, ask_batch, room_for, serve_batch};
 use crate::served_farm::ServedFarm;
 use farm_base::{Clock, Lots, Memory, Readings};
 use farm_core::{Answer, EditAsk, Page, ViewAsk};
@@ -33,7 +32,6 @@ use revision_keeper::Keeper;
 use slot_cache::SlotCache;
 use std::alloc::Global;
 use std::thread::Threads;
-use sticky_routes::region_of_host;
 
 /// A request that was answered.
 #[derive(Drop)]
@@ -82,9 +80,8 @@ pub enum Reaction {
 }
 
 /// Does what a request that was read asks for. If it is out of memory before it begins, nothing is done.
-pub(crate) fn serve_arrival<R: Threads + Sync, K: Keeper, C: Clock, L: Lots, W: Wire>(
+pub(crate) fn serve_arrival<R: AllocGlobal + Threads + Sync, K: Keeper, C: Clock, L: Lots, W: Wire>(
     rt: &R,
-    alloc: Global,
     served: &mut ServedFarm<K, SlotCache<Page>>,
     clock: &mut C,
     lots: &mut L,
@@ -93,8 +90,8 @@ pub(crate) fn serve_arrival<R: Threads + Sync, K: Keeper, C: Clock, L: Lots, W: 
 ) -> Reaction
     requires whole { IsWhole served.old.farm }
     requires free { open_at served.old.farm.requests 0 ≡ None }
-    ensures reacts { (peer : Bytes) → Reacts K.content K.faults map_of peer served.old.farm served.new.farm served.old.sent
-        served.new.sent
+    ensures reacts { (peer : Bytes) → Reacts K.content K.faults map_of peer served.old.farm served.new.farm
+        served.old.sent served.new.sent
         (heard_seen (C.exposed clock.old) (L.exposed lots.old) (W.carried wire.old) (W.refused wire.old)
         (W.empty wire.old))
         (heard_seen (C.exposed clock.new) (L.exposed lots.new) (W.carried wire.new) (W.refused wire.new)
@@ -107,13 +104,12 @@ pub(crate) fn serve_arrival<R: Threads + Sync, K: Keeper, C: Clock, L: Lots, W: 
     match arrival {
         Arrival::Ended(end) => Reaction::Ended(end),
         Arrival::Refused(refusal) => Reaction::Refused(refusal),
-        Arrival::Ready(visit) => serve_visit(rt, alloc, served, clock, lots, wire, visit),
+        Arrival::Ready(visit) => serve_visit(rt, served, clock, lots, wire, visit),
     }
 }
 
-fn serve_visit<R: Threads + Sync, K: Keeper, C: Clock, L: Lots, W: Wire>(
+fn serve_visit<R: AllocGlobal + Threads + Sync, K: Keeper, C: Clock, L: Lots, W: Wire>(
     rt: &R,
-    alloc: Global,
     served: &mut ServedFarm<K, SlotCache<Page>>,
     clock: &mut C,
     lots: &mut L,
@@ -122,8 +118,8 @@ fn serve_visit<R: Threads + Sync, K: Keeper, C: Clock, L: Lots, W: Wire>(
 ) -> Reaction
     requires whole { IsWhole served.old.farm }
     requires free { open_at served.old.farm.requests 0 ≡ None }
-    ensures reacts { (peer : Bytes) → IsFrom peer visit → ReactsTo K.content K.faults map_of (desk_of peer served.old.farm)
-        served.old.farm served.new.farm served.old.sent served.new.sent
+    ensures reacts { (peer : Bytes) → IsFrom peer visit → ReactsTo K.content K.faults map_of
+        (desk_of peer served.old.farm) served.old.farm served.new.farm served.old.sent served.new.sent
         (heard_seen (C.exposed clock.old) (L.exposed lots.old) (W.carried wire.old) (W.refused wire.old)
         (W.empty wire.old))
         (heard_seen (C.exposed clock.new) (L.exposed lots.new) (W.carried wire.new) (W.refused wire.new)
@@ -133,6 +129,7 @@ fn serve_visit<R: Threads + Sync, K: Keeper, C: Clock, L: Lots, W: Wire>(
     ensures free { open_at served.new.farm.requests 0 ≡ None }
     ensures counts { K.faults served.old.farm.keeper ≤ K.faults served.new.farm.keeper }
 {
+    let alloc = rt.alloc();
     let Ok(location) = location_for(alloc, &visit.request.call) else {
         return Reaction::Ended(ConnEnd::Memory);
     };
@@ -181,8 +178,8 @@ fn serve_call<R: Threads + Sync, K: Keeper, L: Lots, W: Wire>(
     requires whole { IsWhole served.old.farm }
     requires free { open_at served.old.farm.requests 0 ≡ None }
     requires room { HasRoomFor (call_shown prepared.visit.request.call) prepared.room }
-    ensures does { (peer : Bytes) → IsFrom peer prepared.visit → DoesCallFor K.content K.faults map_of (desk_of peer served.old.farm)
-        served.old.farm served.new.farm served.old.sent served.new.sent prepared.at
+    ensures does { (peer : Bytes) → IsFrom peer prepared.visit → DoesCallFor K.content K.faults map_of
+        (desk_of peer served.old.farm) served.old.farm served.new.farm served.old.sent served.new.sent prepared.at
         (outside_seen (L.exposed lots.old) (W.carried wire.old) (W.refused wire.old) (W.empty wire.old))
         (outside_seen (L.exposed lots.new) (W.carried wire.new) (W.refused wire.new) (W.empty wire.new))
         (request_shown prepared.visit.request) result }
@@ -193,24 +190,11 @@ fn serve_call<R: Threads + Sync, K: Keeper, L: Lots, W: Wire>(
     let Prepared { visit, at, room } = prepared;
     let Visit { request, stranger } = visit;
     let now = moment_for(&served.farm, &at, &request);
-    let cookie = live_cookie(&request, now);
-    let client = client_of(&cookie, stranger);
-    let Request {
-        host,
-        cookies,
-        call,
-        ..
-    } = request;
+    let caller = caller_of(&request, stranger, now);
+    let Request { call, .. } = request;
     match call {
         Call::Page(title) => {
-            let ask = ViewAsk {
-                host: region_of_host(&host),
-                client,
-                cookie,
-                use_master: cookies.use_master,
-                word: lots.word(),
-                title,
-            };
+            let ask = view_by(caller, lots.word(), title);
             Said::One(serve_view(alloc, served, wire, &at, ask))
         }
         Call::Edit {
@@ -220,7 +204,7 @@ fn serve_call<R: Threads + Sync, K: Keeper, L: Lots, W: Wire>(
             text,
         } => {
             let ask = EditAsk {
-                client,
+                client: caller.client,
                 token,
                 title,
                 base,
@@ -230,17 +214,7 @@ fn serve_call<R: Threads + Sync, K: Keeper, L: Lots, W: Wire>(
         }
         Call::Batch(titles) => {
             let Some(room) = room else { unreachable!() };
-            let BatchRoom { first, drawn, jobs } = room;
-            let drawn = draw_words(lots, titles, drawn);
-            let view = ViewAsk {
-                host: region_of_host(&host),
-                client,
-                cookie,
-                use_master: cookies.use_master,
-                word: first_word(&drawn),
-                title: first,
-            };
-            let ask = BatchAsk { view, drawn, jobs };
+            let ask = ask_batch(lots, caller, titles, room);
             serve_batch(rt, alloc, served, wire, &at, ask)
         }
     }

@@ -8,10 +8,13 @@ ghost use Rattle.slot_cache.specs.AsModel.{map_of};
 ghost use Rattle.region_state.specs.AsModel.{view_of};
 ghost use Rattle.farm_core.specs.FarmParts.{IsWhole};
 ghost use Rattle.farm_steps.specs.RequestMap.{open_at};
+ghost use Rattle.wiki_serve.specs.Callers.{view_by};
 ghost use Rattle.wiki_serve.specs.Housework.{wire_seen};
-ghost use Rattle.wiki_serve.specs.BatchSteps.{HasRoomFor, IsRoomFor, IsDrawn, IsOneDrawn, pair_of, word_of, job_at, FindsNeed, MakesBatch, ServesBatch, said_outcome};
+ghost use Rattle.wiki_serve.specs.BatchSteps.{HasRoomFor, IsRoomFor, IsDrawn, IsOneDrawn, pair_of, word_of, job_at};
+ghost use Rattle.wiki_serve.specs.BatchSteps.{FindsNeed, MakesBatch, ServesBatch, said_outcome};
 
 use crate::asked_steps::of_view;
+use crate::callers::{Caller, view_by};
 use crate::housework::keep_house;
 use crate::served_farm::ServedFarm;
 use farm_base::{Lots, Memory, Readings, Region};
@@ -87,8 +90,30 @@ fn batch_room(alloc: Global, titles: &[Title]) -> Result<BatchRoom, Memory>
     })
 }
 
+/// What a batch of these titles asks for, with a word that is drawn for each. There is room for them.
+pub(crate) fn ask_batch<L: Lots>(
+    lots: &mut L,
+    caller: Caller,
+    titles: Vec<Title>,
+    room: BatchRoom,
+) -> BatchAsk
+    requires room { IsRoomFor room titles.items }
+    ensures drawn { IsDrawn (L.exposed lots.old) (L.exposed lots.new) titles.items result.drawn.items }
+    ensures word { first_of_list (map word_of result.drawn.items) ≡ Some result.view.word }
+    ensures title { first_of_list titles.items ≡ Some result.view.title }
+    ensures view { result.view ≡ view_by caller result.view.word result.view.title }
+    ensures few { length result.drawn.items ≤ jobs_max }
+    ensures empty { result.jobs.items ≡ [] }
+    ensures fits { length result.drawn.items ≤ result.jobs.cap }
+{
+    let BatchRoom { first, drawn, jobs } = room;
+    let drawn = draw_words(lots, titles, drawn);
+    let view = view_by(caller, first_word(&drawn), first);
+    BatchAsk { view, drawn, jobs }
+}
+
 /// Draws a word for each title, in their order. There is room for them.
-pub(crate) fn draw_words<L: Lots>(lots: &mut L, titles: Vec<Title>, room: Vec<Drawn>) -> Vec<Drawn>
+fn draw_words<L: Lots>(lots: &mut L, titles: Vec<Title>, room: Vec<Drawn>) -> Vec<Drawn>
     requires empty { room.items ≡ [] }
     requires room { length titles.items ≤ room.cap }
     ensures drawn { IsDrawn (L.exposed lots.old) (L.exposed lots.new) titles.items result.items }
@@ -113,7 +138,7 @@ fn draw_one<L: Lots>(lots: &mut L, drawn: &mut Vec<Drawn>, title: Title)
 }
 
 /// The word of the first title. There is one.
-pub(crate) fn first_word(drawn: &[Drawn]) -> u64
+fn first_word(drawn: &[Drawn]) -> u64
     requires { 0 < length drawn.now }
     ensures { first_of_list (map word_of drawn.now) ≡ Some result }
 {
