@@ -8,10 +8,10 @@ use wiki_titles::{TITLE_MAX, Title};
 /// title shares the bytes, but may be refused.
 #[derive(Drop)]
 pub(crate) struct KeyCopy {
-    /// The title's bytes, and after them bytes that do not count.
-    bytes: [u8; TITLE_MAX],
     /// How many bytes count.
     length: u8,
+    /// The title's bytes, and after them bytes that do not count.
+    bytes: [u8; TITLE_MAX],
 }
 
 impl Model for KeyCopy {

@@ -10,15 +10,16 @@ use wan_cache::{Ask, Look, LookTimes, Moment, Put, Value, look_at, placed};
 use wiki_titles::Title;
 
 /// A slot's key and its two places. A cache that is taken apart (`SlotParts`) hands its rows on; whoever has them gives
-/// each call the floor of its slot.
+/// each call the floor of its slot. The key stands last and begins with its length, so that what a look at a short title
+/// reads lies together.
 #[derive(Drop)]
 pub struct SlotRow<P> {
-    /// Whose the two values are; before the first put no title's.
-    pub(crate) key: KeyCopy,
     /// What was stored while the slot was free. A value that was set before the slot's floor is as good as gone.
     pub(crate) main: Option<Value<P>>,
     /// What was stored while the slot was held off.
     pub(crate) interim: Option<Value<P>>,
+    /// Whose the two values are; before the first put no title's.
+    pub(crate) key: KeyCopy,
 }
 
 impl<P: Drop> SlotRow<P> {
