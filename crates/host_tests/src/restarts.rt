@@ -1,7 +1,10 @@
 // What sessions find after a restart: a second hosting over the keeper that the first one gave back.
 use crate::setting::{always, door_of, host_of, host_on, said};
-use revision_keeper::MemKeeper;
+use revision_keeper::{Keeper, MemKeeper};
+use sqlite::Connection;
+use sqlite_keeper::SqliteKeeper;
 use std::alloc::Global;
+use std::process::Abort;
 use std::test::Fail;
 use std::thread::Threads;
 use wiki_host::Hosted;
@@ -139,20 +142,20 @@ const FAST: &str = "";
 
 // A keeper, and what was said over the connection.
 #[derive(Drop)]
-struct Told {
-    keeper: MemKeeper,
+struct Told<K: Keeper + Drop> {
+    keeper: K,
     text: String,
 }
 
 // Hosts one connection with this input over the keeper, with clocks that always read this.
-fn tell<R: Threads + Sync>(
+fn tell<R: Threads + Sync, K: Keeper + Drop>(
     rt: &R,
     alloc: Global,
-    keeper: MemKeeper,
+    keeper: K,
     layout: &str,
     input: &str,
     milliseconds: u64,
-) -> Result<Told, Fail> {
+) -> Result<Told<K>, Fail> {
     let mut door = door_of(alloc, input, "", 0)?;
     let mut clock = always(alloc, milliseconds);
     let host = host_of(alloc, keeper, layout, 1)?;
@@ -162,7 +165,7 @@ fn tell<R: Threads + Sync>(
 }
 
 // What a first hosting at 5,000 leaves: entry 1 is its beat, 2 the other's edit, 3 the session's own.
-fn first_hosting<R: Threads + Sync>(rt: &R, alloc: Global) -> Result<Told, Fail> {
+fn first_hosting<R: Threads + Sync>(rt: &R, alloc: Global) -> Result<Told<MemKeeper>, Fail> {
     let input = format!(in alloc; "{OTHERS_EDIT}{OWN_EDIT}")?;
     tell(rt, alloc, MemKeeper::new(alloc), FAST, &input, 5_000)
 }
@@ -229,5 +232,29 @@ fn a_position_is_known_to_its_last_moment_after_a_restart(rt: HostRuntime) -> Re
     assert_eq!(rt; text.as_str(), LAGS);
     let text = second_hosting(&rt, alloc, SLOW, OWN_IN_WEST, 65_000)?;
     assert_eq!(rt; text.as_str(), NO_PAGE);
+    Ok(())
+}
+
+#[test]
+fn a_second_farm_finds_what_was_served(rt: HostRuntime) -> Result<(), Fail> {
+    let alloc = rt.alloc();
+    let conn = Connection::open_in_memory(alloc)?;
+    serves_again(&rt, alloc, SqliteKeeper::new(alloc, Ok(conn)))
+}
+
+// Entry 1 is the first hosting's beat, 2 the edit, and 3 the beat of the second hosting, where west's replica has one
+// entry and then two.
+fn serves_again<R: Threads + Sync + Abort, K: Keeper + Drop>(
+    rt: &R,
+    alloc: Global,
+    keeper: K,
+) -> Result<(), Fail> {
+    let input = format!(in alloc; "{OTHERS_EDIT}{STRANGER_IN_WEST}")?;
+    let Told { keeper, text } = tell(rt, alloc, keeper, FAST, &input, 5_000)?;
+    assert!(rt; text.as_str().ends_with(OLDER));
+    let input = format!(in alloc; "{STRANGER_IN_WEST}{STRANGER_IN_WEST}")?;
+    let Told { text, .. } = tell(rt, alloc, keeper, SLOW, &input, 6_000)?;
+    let wanted = format!(in alloc; "{NO_PAGE}{OLDER}")?;
+    assert_eq!(rt; text.as_str(), wanted.as_str());
     Ok(())
 }
