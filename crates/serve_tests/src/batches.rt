@@ -1,21 +1,23 @@
 // Several pages at once, byte for byte.
-use crate::setting::{TestFarm, both, conn_of, serve_at, serve_by, small_farm, written};
+use crate::setting::{both, conn_of, serve_at, serve_by, small_farm, written};
 use edit_core::EditAsk;
 use farm_base::{MemClock, Region};
 use farm_core::{Asked, Farm, Page};
 use purge_relay::{Deal, FarmWire};
-use revision_keeper::Keeper;
+use revision_keeper::{Keeper, MemKeeper};
 use slot_cache::SlotCache;
 use std::alloc::Global;
+use std::process::Abort;
 use std::test::Fail;
 use std::thread::Threads;
-use wiki_serve::ConnEnd;
+use wan_cache::RegionStore;
+use wiki_serve::{ConnEnd, ServedFarm};
 use wiki_titles::{ClientId, Text, Title, Token};
 
 /// Saves the first text of a page at 5,000, without housekeeping. Its title is its token.
-fn save<K: Keeper>(
+fn save<K: Keeper, S: RegionStore<Page>>(
     alloc: Global,
-    farm: &mut Farm<K, SlotCache<Page>>,
+    farm: &mut Farm<K, S>,
     title: &str,
     text: &str,
 ) -> Result<(), Fail> {
@@ -29,6 +31,10 @@ fn save<K: Keeper>(
     if farm.is_open(1) || farm.arrive(both(5_000), 1, asked).is_some() {
         return Err(Fail::new("the edit did not arrive"));
     }
+    commit(farm)
+}
+
+fn commit<K: Keeper, S: RegionStore<Page>>(farm: &mut Farm<K, S>) -> Result<(), Fail> {
     if !farm.is_whole() || farm.begin(both(5_000), 1).is_some() {
         return Err(Fail::new("the edit did not begin"));
     }
@@ -39,7 +45,7 @@ fn save<K: Keeper>(
     Ok(())
 }
 
-fn carry<K: Keeper>(farm: &mut Farm<K, SlotCache<Page>>, number: u64) -> Result<(), Fail> {
+fn carry<K: Keeper, S: RegionStore<Page>>(farm: &mut Farm<K, S>, number: u64) -> Result<(), Fail> {
     if !farm.is_whole() || farm.carry(both(5_000), number, None).is_some() {
         return Err(Fail::new("the message was not carried"));
     }
@@ -47,37 +53,62 @@ fn carry<K: Keeper>(farm: &mut Farm<K, SlotCache<Page>>, number: u64) -> Result<
 }
 
 /// A farm where A, B and C were saved, and west received the purges of A and C.
-fn farm_of_three(alloc: Global) -> Result<TestFarm, Fail> {
-    let mut served = small_farm(alloc)?;
-    save(alloc, &mut served.farm, "A", "one")?;
-    save(alloc, &mut served.farm, "B", "two")?;
-    save(alloc, &mut served.farm, "C", "six")?;
-    carry(&mut served.farm, 1)?;
-    carry(&mut served.farm, 5)?;
+fn farm_of_three<K: Keeper + Drop>(
+    alloc: Global,
+    keeper: K,
+) -> Result<ServedFarm<K, SlotCache<Page>>, Fail> {
+    let mut served = small_farm(alloc, keeper)?;
+    save_three(alloc, &mut served.farm)?;
     Ok(served)
 }
 
-/// What is written for this input at 30,000, where the wire has B's purge and no other message.
-fn said_for<R: Threads + Sync>(
-    rt: &R,
+fn save_three<K: Keeper, S: RegionStore<Page>>(
     alloc: Global,
-    served: &mut TestFarm,
+    farm: &mut Farm<K, S>,
+) -> Result<(), Fail> {
+    save(alloc, farm, "A", "one")?;
+    save(alloc, farm, "B", "two")?;
+    save(alloc, farm, "C", "six")?;
+    carry(farm, 1)?;
+    carry(farm, 5)
+}
+
+/// What is written for this input at 30,000, where the wire has B's purge and no other message.
+fn said_for<R: AllocGlobal + Threads + Sync, K: Keeper>(
+    rt: &R,
+    served: &mut ServedFarm<K, SlotCache<Page>>,
     input: &str,
 ) -> Result<String, Fail> {
-    let mut deals = Vec::new(alloc);
+    let mut deals = Vec::new(rt.alloc());
     deals.push(Deal::Carry(3))?;
-    let mut wire = FarmWire::scripted(alloc, deals);
-    let mut conn = conn_of(alloc, input.as_bytes(), 65_536)?;
-    match serve_at(rt, alloc, served, &mut conn, &mut wire, 30_000)? {
-        ConnEnd::Closed => written(alloc, &conn),
+    let mut wire = FarmWire::scripted(rt.alloc(), deals);
+    let mut conn = conn_of(rt.alloc(), input.as_bytes(), 65_536)?;
+    match serve_at(rt, served, &mut conn, &mut wire, 30_000)? {
+        ConnEnd::Closed => written(rt.alloc(), &conn),
         _ => Err(Fail::new("the connection was not closed")),
     }
 }
 
+/// The same on a farm of three over this keeper.
+fn said_of_three<R: AllocGlobal + Threads + Sync, K: Keeper + Drop>(
+    rt: &R,
+    keeper: K,
+    input: &str,
+) -> Result<String, Fail> {
+    let mut served = farm_of_three(rt.alloc(), keeper)?;
+    said_for(rt, &mut served, input)
+}
+
 #[test]
 fn three_pages_are_rendered_and_then_hit(rt: HostRuntime) -> Result<(), Fail> {
-    let alloc = rt.alloc();
-    let mut served = farm_of_three(alloc)?;
+    renders_and_hits(&rt, MemKeeper::new(rt.alloc()))
+}
+
+fn renders_and_hits<R: AllocGlobal + Threads + Sync + Abort, K: Keeper + Drop>(
+    rt: &R,
+    keeper: K,
+) -> Result<(), Fail> {
+    let mut served = farm_of_three(rt.alloc(), keeper)?;
     let input = "\
 GET /batch?titles=A%7CB%7CC HTTP/1.1\r
 Host: west.wiki.example\r
@@ -86,7 +117,7 @@ GET /batch?titles=A%7CB%7CC HTTP/1.1\r
 Host: west.wiki.example\r
 \r
 ";
-    let text = said_for(&rt, alloc, &mut served, input)?;
+    let text = said_for(rt, &mut served, input)?;
     let wanted = "\
 HTTP/1.1 200 OK\r
 Content-Type: text/plain; charset=utf-8\r
@@ -136,6 +167,13 @@ Connection: keep-alive\r
 
 #[test]
 fn a_batch_of_one_hits_the_page_that_was_viewed(rt: HostRuntime) -> Result<(), Fail> {
+    hits_what_was_viewed(&rt, MemKeeper::new(rt.alloc()))
+}
+
+fn hits_what_was_viewed<R: AllocGlobal + Threads + Sync + Abort, K: Keeper + Drop>(
+    rt: &R,
+    keeper: K,
+) -> Result<(), Fail> {
     let alloc = rt.alloc();
     let input = "\
 POST /edit HTTP/1.1\r
@@ -176,13 +214,13 @@ Connection: keep-alive\r
 <h1>Café menu</h1>
 <p>one</p>
 ";
-    let mut served = small_farm(alloc)?;
+    let mut served = small_farm(alloc, keeper)?;
     let mut wire = FarmWire::new(alloc);
     let mut conn = conn_of(alloc, input.as_bytes(), 65_536)?;
     let mut first = Vec::new(alloc);
     first.push(both(5_000))?;
     let mut clock = MemClock::new(first, both(30_000));
-    let end = serve_by(&rt, alloc, &mut served, &mut conn, &mut wire, &mut clock)?;
+    let end = serve_by(rt, &mut served, &mut conn, &mut wire, &mut clock)?;
     assert_eq!(rt; end, ConnEnd::Closed);
     assert!(rt; written(alloc, &conn)?.as_str().ends_with(wanted));
     Ok(())
@@ -190,8 +228,6 @@ Connection: keep-alive\r
 
 #[test]
 fn a_session_that_is_behind_is_told_so_for_the_whole_batch(rt: HostRuntime) -> Result<(), Fail> {
-    let alloc = rt.alloc();
-    let mut served = farm_of_three(alloc)?;
     let input = "\
 GET /batch?titles=A%7CB HTTP/1.1\r
 Host: west.wiki.example\r
@@ -206,15 +242,13 @@ Connection: keep-alive\r
 \r
 lag index needed=4 reached=0
 ";
-    let text = said_for(&rt, alloc, &mut served, input)?;
+    let text = said_of_three(&rt, MemKeeper::new(rt.alloc()), input)?;
     assert_eq!(rt; text.as_str(), wanted);
     Ok(())
 }
 
 #[test]
 fn sixteen_titles_are_answered_in_their_order(rt: HostRuntime) -> Result<(), Fail> {
-    let alloc = rt.alloc();
-    let mut served = farm_of_three(alloc)?;
     let input = "\
 GET /batch?titles=A%7CD%7CD%7CD%7CD%7CD%7CD%7CD%7CD%7CD%7CD%7CD%7CD%7CD%7CD%7CA HTTP/1.1\r
 Host: wiki.example\r
@@ -251,15 +285,13 @@ Connection: keep-alive\r
 <h1>A</h1>
 <p>one</p>
 ";
-    let text = said_for(&rt, alloc, &mut served, input)?;
+    let text = said_of_three(&rt, MemKeeper::new(rt.alloc()), input)?;
     assert_eq!(rt; text.as_str(), wanted);
     Ok(())
 }
 
 #[test]
 fn a_head_says_how_long_a_batch_is_and_does_not_send_it(rt: HostRuntime) -> Result<(), Fail> {
-    let alloc = rt.alloc();
-    let mut served = farm_of_three(alloc)?;
     let input = "HEAD /batch?titles=A%7CD HTTP/1.1\r\nHost: wiki.example\r\n\r\n";
     let wanted = "\
 HTTP/1.1 200 OK\r
@@ -268,7 +300,7 @@ Content-Length: 121\r
 Connection: keep-alive\r
 \r
 ";
-    let text = said_for(&rt, alloc, &mut served, input)?;
+    let text = said_of_three(&rt, MemKeeper::new(rt.alloc()), input)?;
     assert_eq!(rt; text.as_str(), wanted);
     Ok(())
 }

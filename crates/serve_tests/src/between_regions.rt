@@ -1,12 +1,24 @@
 // Messages that are sent and taken before a request, and what the second region then knows.
 use crate::setting::{conn_of, serve_at, small_farm};
 use farm_base::Region;
-use purge_relay::{Deal, FarmWire};
+use farm_core::Page;
+use purge_relay::{Deal, FarmWire, Wire};
+use revision_keeper::{Keeper, MemKeeper};
+use std::process::Abort;
 use std::test::Fail;
-use wiki_serve::ConnEnd;
+use std::thread::Threads;
+use wan_cache::RegionStore;
+use wiki_serve::{ConnEnd, ServedFarm};
 
 #[test]
 fn messages_are_sent_and_carried_before_the_next_request(rt: HostRuntime) -> Result<(), Fail> {
+    sends_and_carries(&rt, MemKeeper::new(rt.alloc()))
+}
+
+fn sends_and_carries<R: AllocGlobal + Threads + Sync + Abort, K: Keeper + Drop>(
+    rt: &R,
+    keeper: K,
+) -> Result<(), Fail> {
     let input = "\
 POST /edit HTTP/1.1\r
 Host: wiki.example\r
@@ -17,20 +29,46 @@ GET /wiki/B HTTP/1.1\r
 Host: wiki.example\r
 \r
 ";
-    let mut served = small_farm(rt.alloc())?;
+    let mut served = small_farm(rt.alloc(), keeper)?;
     let mut wire = FarmWire::new(rt.alloc());
     let mut conn = conn_of(rt.alloc(), input.as_bytes(), 65_536)?;
-    let end = serve_at(&rt, rt.alloc(), &mut served, &mut conn, &mut wire, 5_000)?;
+    let end = serve_at(rt, &mut served, &mut conn, &mut wire, 5_000)?;
     assert_eq!(rt; end, ConnEnd::Closed);
     assert_eq!(rt; served.farm.issued(), 2);
-    assert_eq!(rt; served.sent, 2);
-    assert!(rt; served.farm.receipt(1, Region::West).is_some());
+    has_sent(rt, &served, 2)?;
+    has_received(rt, &served, true)
+}
+
+// So many messages were sent.
+fn has_sent<K: Keeper, S: RegionStore<Page>>(
+    rt: &impl Abort,
+    served: &ServedFarm<K, S>,
+    count: u64,
+) -> Result<(), Fail> {
+    assert_eq!(rt; served.sent, count);
+    Ok(())
+}
+
+// Whether west has received the first purge.
+fn has_received<K: Keeper, S: RegionStore<Page>>(
+    rt: &impl Abort,
+    served: &ServedFarm<K, S>,
+    wanted: bool,
+) -> Result<(), Fail> {
+    assert_eq!(rt; served.farm.receipt(1, Region::West).is_some(), wanted);
     Ok(())
 }
 
 #[test]
 fn the_next_connection_sends_what_was_left_unsent(rt: HostRuntime) -> Result<(), Fail> {
-    let mut served = small_farm(rt.alloc())?;
+    sends_what_was_left(&rt, MemKeeper::new(rt.alloc()))
+}
+
+fn sends_what_was_left<R: AllocGlobal + Threads + Sync + Abort, K: Keeper + Drop>(
+    rt: &R,
+    keeper: K,
+) -> Result<(), Fail> {
+    let mut served = small_farm(rt.alloc(), keeper)?;
     let mut wire = FarmWire::new(rt.alloc());
     let input = "\
 POST /edit HTTP/1.1\r
@@ -39,22 +77,35 @@ Content-Length: 31\r
 \r
 title=A&base=0&token=k&text=one";
     let mut conn = conn_of(rt.alloc(), input.as_bytes(), 65_536)?;
-    let end = serve_at(&rt, rt.alloc(), &mut served, &mut conn, &mut wire, 5_000)?;
+    let end = serve_at(rt, &mut served, &mut conn, &mut wire, 5_000)?;
     assert_eq!(rt; end, ConnEnd::Closed);
     assert_eq!(rt; served.farm.issued(), 2);
-    assert_eq!(rt; served.sent, 0);
-    assert!(rt; served.farm.receipt(1, Region::West).is_none());
+    has_sent(rt, &served, 0)?;
+    has_received(rt, &served, false)?;
     let input = b"GET /wiki/B HTTP/1.1\r\nHost: wiki.example\r\n\r\n";
     let mut conn = conn_of(rt.alloc(), input, 65_536)?;
-    let end = serve_at(&rt, rt.alloc(), &mut served, &mut conn, &mut wire, 5_000)?;
+    let end = serve_at(rt, &mut served, &mut conn, &mut wire, 5_000)?;
     assert_eq!(rt; end, ConnEnd::Closed);
-    assert_eq!(rt; served.sent, 2);
-    assert!(rt; served.farm.receipt(1, Region::West).is_some());
-    Ok(())
+    has_sent(rt, &served, 2)?;
+    has_received(rt, &served, true)
 }
 
 #[test]
 fn a_take_that_fails_ends_the_taking(rt: HostRuntime) -> Result<(), Fail> {
+    let mut deals = Vec::new(rt.alloc());
+    deals.push(Deal::Skip)?;
+    deals.push(Deal::Fail)?;
+    deals.push(Deal::Carry(1))?;
+    deals.push(Deal::Carry(1))?;
+    let mut wire = FarmWire::scripted(rt.alloc(), deals);
+    takes_later(&rt, MemKeeper::new(rt.alloc()), &mut wire)
+}
+
+fn takes_later<R: AllocGlobal + Threads + Sync + Abort, K: Keeper + Drop, W: Wire>(
+    rt: &R,
+    keeper: K,
+    wire: &mut W,
+) -> Result<(), Fail> {
     let input = "\
 POST /edit HTTP/1.1\r
 Host: wiki.example\r
@@ -68,17 +119,10 @@ GET /wiki/B HTTP/1.1\r
 Host: wiki.example\r
 \r
 ";
-    let mut deals = Vec::new(rt.alloc());
-    deals.push(Deal::Skip)?;
-    deals.push(Deal::Fail)?;
-    deals.push(Deal::Carry(1))?;
-    deals.push(Deal::Carry(1))?;
-    let mut served = small_farm(rt.alloc())?;
-    let mut wire = FarmWire::scripted(rt.alloc(), deals);
+    let mut served = small_farm(rt.alloc(), keeper)?;
     let mut conn = conn_of(rt.alloc(), input.as_bytes(), 65_536)?;
-    let end = serve_at(&rt, rt.alloc(), &mut served, &mut conn, &mut wire, 5_000)?;
+    let end = serve_at(rt, &mut served, &mut conn, wire, 5_000)?;
     assert_eq!(rt; end, ConnEnd::Closed);
-    assert_eq!(rt; served.sent, 2);
-    assert!(rt; served.farm.receipt(1, Region::West).is_some());
-    Ok(())
+    has_sent(rt, &served, 2)?;
+    has_received(rt, &served, true)
 }

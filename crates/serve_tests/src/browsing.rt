@@ -60,7 +60,7 @@ Connection: keep-alive\r
 #[test]
 fn an_edit_is_saved_and_its_page_is_seen(rt: HostRuntime) -> Result<(), Fail> {
     let input = format!(in rt.alloc(); "{SAVING}{READING}")?;
-    let Talked { end, text } = talk(&rt, rt.alloc(), input.as_bytes())?;
+    let Talked { end, text } = talk(&rt, input.as_bytes())?;
     assert_eq!(rt; text.as_str(), ANSWERS);
     assert_eq!(rt; end, ConnEnd::Closed);
     Ok(())
@@ -69,7 +69,7 @@ fn an_edit_is_saved_and_its_page_is_seen(rt: HostRuntime) -> Result<(), Fail> {
 #[test]
 fn the_same_is_said_byte_by_byte(rt: HostRuntime) -> Result<(), Fail> {
     let input = format!(in rt.alloc(); "{SAVING}{READING}")?;
-    let Talked { end, text } = talk_in_pieces(&rt, rt.alloc(), input.as_bytes(), 1)?;
+    let Talked { end, text } = talk_in_pieces(&rt, input.as_bytes(), 1)?;
     assert_eq!(rt; text.as_str(), ANSWERS);
     assert_eq!(rt; end, ConnEnd::Closed);
     Ok(())
@@ -80,7 +80,7 @@ fn a_head_says_how_long_the_page_is_and_does_not_send_it(rt: HostRuntime) -> Res
     let input = format!(in rt.alloc();
         "{SAVING}HEAD /wiki/Caf%C3%A9_menu HTTP/1.0\r\nHost: wiki.example\r\n\r\n"
     )?;
-    let Talked { end, text } = talk(&rt, rt.alloc(), input.as_bytes())?;
+    let Talked { end, text } = talk(&rt, input.as_bytes())?;
     let last = "\
 Connection: keep-alive\r
 \r
@@ -102,7 +102,7 @@ Connection: close\r
 #[test]
 fn a_page_that_is_not_there_is_said_of_its_prefix(rt: HostRuntime) -> Result<(), Fail> {
     let input = b"GET /wiki/A HTTP/1.1\r\nHost: wiki.example\r\nConnection: close\r\n\r\nGET /";
-    let Talked { end, text } = talk(&rt, rt.alloc(), input)?;
+    let Talked { end, text } = talk(&rt, input)?;
     let wanted = "\
 HTTP/1.1 404 Not Found\r
 Content-Type: text/plain; charset=utf-8\r
@@ -133,7 +133,7 @@ Cookie: cpPosIndex=1@5#00000000000000000000000000000001\r
 \r
 title=Caf%C3%A9_menu&base=0&token=k2&text=two";
     let input = format!(in rt.alloc(); "{SAVING}{again}")?;
-    let Talked { end, text } = talk(&rt, rt.alloc(), input.as_bytes())?;
+    let Talked { end, text } = talk(&rt, input.as_bytes())?;
     let last = "\
 HTTP/1.1 422 Unprocessable Content\r
 Content-Type: text/plain; charset=utf-8\r
@@ -162,7 +162,7 @@ Cookie: cpPosIndex=2@5#00000000000000000000000000000001\r
 \r
 ";
     let input = format!(in rt.alloc(); "{SAVING}{view}")?;
-    let Talked { end, text } = talk(&rt, rt.alloc(), input.as_bytes())?;
+    let Talked { end, text } = talk(&rt, input.as_bytes())?;
     assert_eq!(rt; end, ConnEnd::Closed);
     assert!(rt;
         text.as_str()
@@ -177,7 +177,7 @@ fn a_connection_has_a_thousand_requests(rt: HostRuntime) -> Result<(), Fail> {
     for _ in 0..1_001 {
         input.push_str("GET /nowhere HTTP/1.1\r\nHost: a\r\n\r\n")?;
     }
-    let Talked { end, text } = talk(&rt, rt.alloc(), input.as_bytes())?;
+    let Talked { end, text } = talk(&rt, input.as_bytes())?;
     let one = "\
 HTTP/1.1 404 Not Found\r
 Content-Type: text/plain; charset=utf-8\r

@@ -9,6 +9,9 @@
 //! - `between_regions`: messages that are sent and taken before a request, and the second region;
 //! - `setting`: a small farm, and serving bytes on it.
 //!
+//! A test makes its keeper and hands it to a helper over any keeper: with the keeper's type in it a proof takes minutes.
+//! Serving goes through one function of `setting`, over any connection, clock, lots and wire.
+//!
 //! The error of each test is `std::test::Fail`, so that `?` takes every refusal.
 #![tactic(auto)]
 

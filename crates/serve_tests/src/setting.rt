@@ -1,6 +1,6 @@
-// A small farm, and serving bytes on it.
+// A small farm over any keeper, and serving bytes on it.
 use drill_script::{Script, read_script};
-use farm_base::{BOUND_MAX, MemClock, MemConn, MemLots, Moment, Readings};
+use farm_base::{BOUND_MAX, Clock, Conn, Lots, MemClock, MemConn, MemLots, Moment, Readings};
 use farm_core::{Farm, Page};
 use purge_relay::{FarmWire, Wire};
 use revision_keeper::{Keeper, MemKeeper};
@@ -9,17 +9,16 @@ use std::alloc::Global;
 use std::str;
 use std::test::Fail;
 use std::thread::Threads;
-use wan_cache::RegionStore;
 use wiki_serve::{ConnEnd, ServedFarm, serve_conn};
-
-/// The farm of these tests.
-pub type TestFarm = ServedFarm<MemKeeper, SlotCache<Page>>;
 
 /// How many entries a replica applies before a request, unless a layout says otherwise.
 const PACE: u32 = 1_000; // entries
 
-/// A farm of the default plan over this keeper, opened at this moment of both regions.
-pub fn farm_over(alloc: Global, keeper: MemKeeper, now: u64) -> Result<TestFarm, Fail> {
+/// A farm of the default plan over this keeper, opened at 5,000 of both regions.
+pub fn small_farm<K: Keeper + Drop>(
+    alloc: Global,
+    keeper: K,
+) -> Result<ServedFarm<K, SlotCache<Page>>, Fail> {
     let Script { plan, .. } = read_script(alloc, b"end\n")?;
     let mut plan = plan;
     plan.pace = PACE;
@@ -31,14 +30,10 @@ pub fn farm_over(alloc: Global, keeper: MemKeeper, now: u64) -> Result<TestFarm,
     }
     let home = SlotCache::new(alloc, 65_536, hold_off)?;
     let west = SlotCache::new(alloc, 65_536, hold_off)?;
-    match Farm::new(alloc, keeper, plan, home, west, both(now)) {
+    match Farm::new(alloc, keeper, plan, home, west, both(5_000)) {
         Ok(farm) => Ok(ServedFarm { farm, sent: 0 }),
         Err(_) => Err(Fail::new("no farm")),
     }
-}
-
-pub fn small_farm(alloc: Global) -> Result<TestFarm, Fail> {
-    farm_over(alloc, MemKeeper::new(alloc), 5_000)
 }
 
 /// Both clocks read this.
@@ -72,32 +67,42 @@ pub fn conn_failing(
 }
 
 /// Serves the connection at this moment of both regions, with words that are 0.
-pub fn serve_at<R: Threads + Sync, K: Keeper, W: Wire>(
+pub fn serve_at<R: AllocGlobal + Threads + Sync, K: Keeper, X: Conn, W: Wire>(
     rt: &R,
-    alloc: Global,
     served: &mut ServedFarm<K, SlotCache<Page>>,
-    conn: &mut MemConn,
+    conn: &mut X,
     wire: &mut W,
     now: u64,
 ) -> Result<ConnEnd, Fail> {
-    let mut clock = MemClock::new(Vec::new(alloc), both(now));
-    serve_by(rt, alloc, served, conn, wire, &mut clock)
+    let mut clock = MemClock::new(Vec::new(rt.alloc()), both(now));
+    serve_by(rt, served, conn, wire, &mut clock)
 }
 
 /// Serves the connection by this clock, with words that are 0.
-pub fn serve_by<R: Threads + Sync, K: Keeper, W: Wire>(
+pub fn serve_by<R: AllocGlobal + Threads + Sync, K: Keeper, X: Conn, W: Wire, C: Clock>(
     rt: &R,
-    alloc: Global,
     served: &mut ServedFarm<K, SlotCache<Page>>,
-    conn: &mut MemConn,
+    conn: &mut X,
     wire: &mut W,
-    clock: &mut MemClock,
+    clock: &mut C,
+) -> Result<ConnEnd, Fail> {
+    let mut lots = MemLots::new(Vec::new(rt.alloc()), 0);
+    serve(rt, served, conn, clock, &mut lots, wire)
+}
+
+/// Serves the connection, if its conditions hold: every test serves through here.
+fn serve<R: AllocGlobal + Threads + Sync, K: Keeper, X: Conn, C: Clock, L: Lots, W: Wire>(
+    rt: &R,
+    served: &mut ServedFarm<K, SlotCache<Page>>,
+    conn: &mut X,
+    clock: &mut C,
+    lots: &mut L,
+    wire: &mut W,
 ) -> Result<ConnEnd, Fail> {
     if !served.farm.is_whole() || served.farm.is_open(0) {
         return Err(Fail::new("the farm is not ready to be served"));
     }
-    let mut lots = MemLots::new(Vec::new(alloc), 0);
-    Ok(serve_conn(&(rt, alloc), served, conn, clock, &mut lots, wire))
+    Ok(serve_conn(rt, served, conn, clock, lots, wire))
 }
 
 /// What one connection wrote, and how it ended.
@@ -107,33 +112,40 @@ pub struct Talked {
 }
 
 /// Serves this input at 5,000 on an empty farm, in calls of any size.
-pub fn talk<R: Threads + Sync>(rt: &R, alloc: Global, input: &[u8]) -> Result<Talked, Fail> {
-    talk_in_pieces(rt, alloc, input, 65_536)
+pub fn talk<R: AllocGlobal + Threads + Sync>(rt: &R, input: &[u8]) -> Result<Talked, Fail> {
+    talk_in_pieces(rt, input, 65_536)
 }
 
-pub fn talk_in_pieces<R: Threads + Sync>(
+pub fn talk_in_pieces<R: AllocGlobal + Threads + Sync>(
     rt: &R,
-    alloc: Global,
     input: &[u8],
     piece: usize,
 ) -> Result<Talked, Fail> {
-    let mut conn = conn_of(alloc, input, piece)?;
-    let end = serve_new(rt, alloc, &mut conn)?;
+    let mut conn = conn_of(rt.alloc(), input, piece)?;
+    let end = serve_new(rt, &mut conn)?;
     Ok(Talked {
         end,
-        text: written(alloc, &conn)?,
+        text: written(rt.alloc(), &conn)?,
     })
 }
 
 /// Serves the connection at 5,000 on an empty farm.
-pub fn serve_new<R: Threads + Sync>(
+pub fn serve_new<R: AllocGlobal + Threads + Sync, X: Conn>(
     rt: &R,
-    alloc: Global,
-    conn: &mut MemConn,
+    conn: &mut X,
 ) -> Result<ConnEnd, Fail> {
-    let mut served = small_farm(alloc)?;
-    let mut wire = FarmWire::new(alloc);
-    serve_at(rt, alloc, &mut served, conn, &mut wire, 5_000)
+    serve_over(rt, MemKeeper::new(rt.alloc()), conn)
+}
+
+/// Serves the connection at 5,000 on a farm over this keeper.
+fn serve_over<R: AllocGlobal + Threads + Sync, K: Keeper + Drop, X: Conn>(
+    rt: &R,
+    keeper: K,
+    conn: &mut X,
+) -> Result<ConnEnd, Fail> {
+    let mut served = small_farm(rt.alloc(), keeper)?;
+    let mut wire = FarmWire::new(rt.alloc());
+    serve_at(rt, &mut served, conn, &mut wire, 5_000)
 }
 
 /// What was written over the connection.
