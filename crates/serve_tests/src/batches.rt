@@ -104,12 +104,7 @@ fn three_pages_are_rendered_and_then_hit(rt: HostRuntime) -> Result<(), Fail> {
     renders_and_hits(&rt, MemKeeper::new(rt.alloc()))
 }
 
-fn renders_and_hits<R: AllocGlobal + Threads + Sync + Abort, K: Keeper + Drop>(
-    rt: &R,
-    keeper: K,
-) -> Result<(), Fail> {
-    let mut served = farm_of_three(rt.alloc(), keeper)?;
-    let input = "\
+const THREE_TWICE: &str = "\
 GET /batch?titles=A%7CB%7CC HTTP/1.1\r
 Host: west.wiki.example\r
 \r
@@ -117,8 +112,8 @@ GET /batch?titles=A%7CB%7CC HTTP/1.1\r
 Host: west.wiki.example\r
 \r
 ";
-    let text = said_for(rt, &mut served, input)?;
-    let wanted = "\
+
+const RENDERED_AND_HIT: &str = "\
 HTTP/1.1 200 OK\r
 Content-Type: text/plain; charset=utf-8\r
 Content-Length: 306\r
@@ -160,7 +155,14 @@ Connection: keep-alive\r
 <h1>C</h1>
 <p>six</p>
 ";
-    assert_eq!(rt; text.as_str(), wanted);
+
+fn renders_and_hits<R: AllocGlobal + Threads + Sync + Abort, K: Keeper + Drop>(
+    rt: &R,
+    keeper: K,
+) -> Result<(), Fail> {
+    let mut served = farm_of_three(rt.alloc(), keeper)?;
+    let text = said_for(rt, &mut served, THREE_TWICE)?;
+    assert_eq!(rt; text.as_str(), RENDERED_AND_HIT);
     assert!(rt; served.farm.receipt(3, Region::West).is_some());
     Ok(())
 }
@@ -170,12 +172,7 @@ fn a_batch_of_one_hits_the_page_that_was_viewed(rt: HostRuntime) -> Result<(), F
     hits_what_was_viewed(&rt, MemKeeper::new(rt.alloc()))
 }
 
-fn hits_what_was_viewed<R: AllocGlobal + Threads + Sync + Abort, K: Keeper + Drop>(
-    rt: &R,
-    keeper: K,
-) -> Result<(), Fail> {
-    let alloc = rt.alloc();
-    let input = "\
+const SAVED_VIEWED_AND_LISTED: &str = "\
 POST /edit HTTP/1.1\r
 Host: wiki.example\r
 Content-Type: application/x-www-form-urlencoded\r
@@ -190,7 +187,8 @@ GET /batch?titles=Caf%C3%A9_menu HTTP/1.1\r
 Host: wiki.example\r
 \r
 ";
-    let wanted = "\
+
+const ONE_LISTED: &str = "\
 HTTP/1.1 200 OK\r
 Content-Type: text/html; charset=utf-8\r
 Content-Length: 73\r
@@ -214,15 +212,21 @@ Connection: keep-alive\r
 <h1>Café menu</h1>
 <p>one</p>
 ";
+
+fn hits_what_was_viewed<R: AllocGlobal + Threads + Sync + Abort, K: Keeper + Drop>(
+    rt: &R,
+    keeper: K,
+) -> Result<(), Fail> {
+    let alloc = rt.alloc();
     let mut served = small_farm(alloc, keeper)?;
     let mut wire = FarmWire::new(alloc);
-    let mut conn = conn_of(alloc, input.as_bytes(), 65_536)?;
+    let mut conn = conn_of(alloc, SAVED_VIEWED_AND_LISTED.as_bytes(), 65_536)?;
     let mut first = Vec::new(alloc);
     first.push(both(5_000))?;
     let mut clock = MemClock::new(first, both(30_000));
     let end = serve_by(rt, &mut served, &mut conn, &mut wire, &mut clock)?;
     assert_eq!(rt; end, ConnEnd::Closed);
-    assert!(rt; written(alloc, &conn)?.as_str().ends_with(wanted));
+    assert!(rt; written(alloc, &conn)?.as_str().ends_with(ONE_LISTED));
     Ok(())
 }
 
@@ -247,14 +251,13 @@ lag index needed=4 reached=0
     Ok(())
 }
 
-#[test]
-fn sixteen_titles_are_answered_in_their_order(rt: HostRuntime) -> Result<(), Fail> {
-    let input = "\
+const SIXTEEN: &str = "\
 GET /batch?titles=A%7CD%7CD%7CD%7CD%7CD%7CD%7CD%7CD%7CD%7CD%7CD%7CD%7CD%7CD%7CA HTTP/1.1\r
 Host: wiki.example\r
 \r
 ";
-    let wanted = "\
+
+const SIXTEEN_ANSWERS: &str = "\
 HTTP/1.1 200 OK\r
 Content-Type: text/plain; charset=utf-8\r
 Content-Length: 471\r
@@ -285,8 +288,11 @@ Connection: keep-alive\r
 <h1>A</h1>
 <p>one</p>
 ";
-    let text = said_of_three(&rt, MemKeeper::new(rt.alloc()), input)?;
-    assert_eq!(rt; text.as_str(), wanted);
+
+#[test]
+fn sixteen_titles_are_answered_in_their_order(rt: HostRuntime) -> Result<(), Fail> {
+    let text = said_of_three(&rt, MemKeeper::new(rt.alloc()), SIXTEEN)?;
+    assert_eq!(rt; text.as_str(), SIXTEEN_ANSWERS);
     Ok(())
 }
 
