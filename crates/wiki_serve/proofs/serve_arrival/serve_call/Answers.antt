@@ -1,10 +1,10 @@
-use Rattle.std.proofs.Common.{map, refl, ap, ◌∙◌}
+use Rattle.std.proofs.Common.{refl, ap, ◌∙◌}
 use Rattle.std.specs.Prelude.{option_map}
 use Rattle.http_desk.specs.AsModel.{call_shown, request_shown}
 use Rattle.sticky_routes.specs.AsModel.{cookie_of}
 use Rattle.edit_core.specs.declared.edit_ask.EditAsk.{EditAsk}
 use Rattle.edit_core.specs.AsModel.{edit_of}
-use Rattle.region_state.specs.AsModel.{answer_of, view_of}
+use Rattle.region_state.specs.AsModel.{view_of}
 use Rattle.farm_steps.specs.Moments.{moment_of, moments_at}
 use Rattle.slot_cache.specs.AsModel.{map_of}
 use Rattle.wiki_serve.specs.Callers.{region_of}
