@@ -45,6 +45,7 @@ pub enum RelayAnswer {
 /// A commit that the history has.
 #[derive(Clone, Copy, Debug, PartialEq, Eq)]
 pub struct ClientCommit {
+    /// Whose commit it is.
     pub client: ClientId,
     /// Which of the client's commits it is, counted from 1.
     pub index: u64,

@@ -33,7 +33,7 @@ cut_first sign bytes =
     Some (before_first (λ b. b == sign) bytes, after_first (λ b. b == sign) bytes)
     else None
 
--- a word, and what stands after the one space behind it
+-- a word, and what stands after the one space that follows it
 abbrev pub word_at : Bytes → Option (Bytes × Bytes)
 word_at text = cut_first 32 text
 

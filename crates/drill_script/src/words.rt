@@ -46,7 +46,7 @@ impl From<AllocError> for LineFault {
     }
 }
 
-/// A word, and what stands after the one space behind it.
+/// A word, and what stands after the one space that follows it.
 #[tactic(auto, unfolding(crate::specs::Words::cut_first))]
 pub fn word_at(text: &str) -> Result<(&str, &str), LineFault>
     ensures { Gives (λ x. (x.0.now, x.1.now)) result (word_at text.now) }
@@ -155,16 +155,6 @@ fn character_at(text: &str) -> Option<(&str, &str)>
     None
 }
 
-// What stands before the first backslash, and what after it.
-#[tactic(auto, unfolding(crate::specs::Words::cut_first))]
-fn backslash_at(text: &str) -> Option<(&str, &str)>
-    ensures cut { MatchOption result (cut_first 92 text.now ≡ None)
-        (λ x. cut_first 92 text.now ≡ Some (x.0.now, x.1.now)) }
-    ensures shorter { IfSome result (λ x. length x.1.now < length text.now) }
-{
-    text.split_once('\\')
-}
-
 // The text with its escapes undone: `\n` is a line feed, `\\` a backslash. One pass.
 #[tactic(auto, using(crate::proofs::Escapes::none_left))]
 fn unescaped(alloc: Global, word: &str) -> Result<String, LineFault>
@@ -182,6 +172,16 @@ fn unescaped(alloc: Global, word: &str) -> Result<String, LineFault>
     }
     plain.push_str(rest)?;
     Ok(plain)
+}
+
+// What stands before the first backslash, and what after it.
+#[tactic(auto, unfolding(crate::specs::Words::cut_first))]
+fn backslash_at(text: &str) -> Option<(&str, &str)>
+    ensures cut { MatchOption result (cut_first 92 text.now ≡ None)
+        (λ x. cut_first 92 text.now ≡ Some (x.0.now, x.1.now)) }
+    ensures shorter { IfSome result (λ x. length x.1.now < length text.now) }
+{
+    text.split_once('\\')
 }
 
 fn short_text(alloc: Global, plain: &str) -> Result<Text, LineFault>
@@ -203,24 +203,6 @@ pub fn text_of(alloc: Global, word: &str) -> Result<Text, LineFault>
     short_text(alloc, plain.as_str())
 }
 
-#[tactic(auto, unfolding(crate::specs::Words::cut_first))]
-fn comma_at(text: &str) -> Option<(&str, &str)>
-    ensures { option_map (λ x. (x.0.now, x.1.now)) result ≡ cut_first 44 text.now }
-{
-    text.split_once(',')
-}
-
-fn push_weight(weights: &mut Vec<u16>, word: &str) -> Result<(), LineFault>
-    ensures { Gives (λ _. weights.new.items) result
-        (option_map (λ n. weights.old.items ++ n ∷ []) (number_of 1_000 word.now)) }
-{
-    let weight = number_of(WEIGHT_MAX, word)?;
-    match weights.push(weight as u16) {
-        Ok(()) => Ok(()),
-        Err(_) => Err(LineFault::Memory),
-    }
-}
-
 /// One to eight weights with commas between them.
 pub fn weights_of(alloc: Global, word: &str) -> Result<Listed<u16>, LineFault>
     ensures { Gives (λ w. w) result (weights_in replicas_max word.now) }
@@ -239,17 +221,21 @@ pub fn weights_of(alloc: Global, word: &str) -> Result<Listed<u16>, LineFault>
 }
 
 #[tactic(auto, unfolding(crate::specs::Words::cut_first))]
-fn sign_at(text: &str) -> Result<(&str, &str), LineFault>
-    ensures { Gives (λ x. (x.0.now, x.1.now)) result (cut_first 64 text.now) }
+fn comma_at(text: &str) -> Option<(&str, &str)>
+    ensures { option_map (λ x. (x.0.now, x.1.now)) result ≡ cut_first 44 text.now }
 {
-    text.split_once('@').ok_or(LineFault::Form)
+    text.split_once(',')
 }
 
-#[tactic(auto, unfolding(crate::specs::Words::cut_first))]
-fn plus_at(text: &str) -> Option<(&str, &str)>
-    ensures { option_map (λ x. (x.0.now, x.1.now)) result ≡ cut_first 43 text.now }
+fn push_weight(weights: &mut Vec<u16>, word: &str) -> Result<(), LineFault>
+    ensures { Gives (λ _. weights.new.items) result
+        (option_map (λ n. weights.old.items ++ n ∷ []) (number_of 1_000 word.now)) }
 {
-    text.split_once('+')
+    let weight = number_of(WEIGHT_MAX, word)?;
+    match weights.push(weight as u16) {
+        Ok(()) => Ok(()),
+        Err(_) => Err(LineFault::Memory),
+    }
 }
 
 // The word without the `+` at its end, and whether it had one.
@@ -261,6 +247,23 @@ fn before_plus(word: &str) -> Result<(&str, bool), LineFault>
         Some((before, after)) if after.is_empty() => Ok((before, true)),
         Some(_) => Err(LineFault::Form),
     }
+}
+
+#[tactic(auto, unfolding(crate::specs::Words::cut_first))]
+fn plus_at(text: &str) -> Option<(&str, &str)>
+    ensures { option_map (λ x. (x.0.now, x.1.now)) result ≡ cut_first 43 text.now }
+{
+    text.split_once('+')
+}
+
+/// A client's cookie, and whether it has the cookie `UseDC=master` beside it.
+pub fn cookie_of(client: ClientId, word: &str) -> Result<(Option<PosCookie>, bool), LineFault>
+    ensures { Gives (λ x. (option_map cookie_of x.0, x.1)) result (cookie_in client word.now) }
+{
+    if word == "-" {
+        return Ok((None, false));
+    }
+    position_of(client, word)
 }
 
 // INDEX@SECONDS, and a `+` at the end if the client stays with home.
@@ -282,14 +285,11 @@ fn position_of(client: ClientId, word: &str) -> Result<(Option<PosCookie>, bool)
     ))
 }
 
-/// A client's cookie, and whether it has the cookie `UseDC=master` beside it.
-pub fn cookie_of(client: ClientId, word: &str) -> Result<(Option<PosCookie>, bool), LineFault>
-    ensures { Gives (λ x. (option_map cookie_of x.0, x.1)) result (cookie_in client word.now) }
+#[tactic(auto, unfolding(crate::specs::Words::cut_first))]
+fn sign_at(text: &str) -> Result<(&str, &str), LineFault>
+    ensures { Gives (λ x. (x.0.now, x.1.now)) result (cut_first 64 text.now) }
 {
-    if word == "-" {
-        return Ok((None, false));
-    }
-    position_of(client, word)
+    text.split_once('@').ok_or(LineFault::Form)
 }
 
 /// A line as a text.

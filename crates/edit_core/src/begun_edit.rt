@@ -13,6 +13,7 @@ pub(crate) const MESSAGES_LEFT: u32 = 2;
 /// An edit whose purge was issued. Room for two more messages and the row of its client are reserved.
 #[derive(Debug, Drop)]
 pub struct BegunEdit {
+    /// The edit as it was asked.
     pub ask: EditAsk,
     /// A copy of the ask's title, for a second purge.
     pub purge_title: Title,

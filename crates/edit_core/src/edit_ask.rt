@@ -7,9 +7,11 @@ use wiki_titles::{ClientId, Text, Title, Token};
 /// An edit of a page.
 #[derive(Debug, Drop)]
 pub struct EditAsk {
+    /// Who edits.
     pub client: ClientId,
     /// Names the edit: a client's edit with the same token is saved once.
     pub token: Token,
+    /// The page that is edited.
     pub title: Title,
     /// The revision from which the edit was made; 0 if there is no page.
     pub base: u64,
@@ -24,6 +26,7 @@ pub struct SavedNote {
     pub entry: u64,
     /// The page's revision: how many commits the title has with this one.
     pub revision: u64,
+    /// Who edited.
     pub client: ClientId,
     /// How many commits the client has with this one.
     pub index: u64,
@@ -34,6 +37,7 @@ pub struct SavedNote {
 /// What a commit did.
 #[derive(Clone, Copy, Debug, PartialEq, Eq)]
 pub struct CommitOutcome {
+    /// What the edit became.
     pub note: SavedNote,
     /// The second purge, if the commit came after its due moment. The caller has home receive it.
     pub second_purge: Option<Issued>,

@@ -32,6 +32,11 @@ abbrev pub ArePrefixes : List Entry → List ReplicaState → Type 0
 ArePrefixes history replicas =
     (i : ℕ) (kept : ReplicaState) → slice_get replicas i ≡ Some kept → IsPrefixOf history kept
 
+-- A region agrees with a world's:
+-- 1. it is weighed and bounded as the world's setting says, and reads by the world's markup;
+-- 2. its replicas have applied as many entries as the world's, and each keeps just what those entries say;
+-- 3. its rows of positions stand for what is known of the world's clients;
+-- 4. its cache is there, and stands for the world's run.
 pub record RegionStands {S : Type 0} (cache_of : S → CacheMap Bytes) (parts : RegionParts S) (w : World)
     (r : Region) : Type 0 where
   pub config : parts.config ≡ config_of w.setting r
@@ -56,7 +61,13 @@ last_beat_in [] last = last
 last_beat_in (Beat stamp ∷ entries) last = last_beat_in entries (Some stamp)
 last_beat_in (Committed commit ∷ entries) last = last_beat_in entries last
 
--- The farm agrees with the last world of a run.
+-- The farm agrees with the last world of a run:
+-- 1. its plan is the world's setting, and the history had at most as many entries when it was opened;
+-- 2. its keeper has the world's history, and has counted every fault of the run;
+-- 3. its ledger has the messages that were issued, with when each region received them;
+-- 4. by each id it has the request that is open in the world, at the same point;
+-- 5. its moments are the world's, and its last beat is the last since it was opened;
+-- 6. both regions agree.
 pub record Agrees {K S : Type 0} (content : K → Option (List Entry)) (faults : K → ℕ) (cache_of : S → CacheMap Bytes)
     (farm : FarmParts K S) (w : World) : Type 0 where
   pub plan : IsPlanOf w.setting farm.plan

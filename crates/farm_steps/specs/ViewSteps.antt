@@ -60,7 +60,7 @@ LooksAt id view need old new answer (Interim v) =
 LooksAt id view need old new answer (Missed why) =
     (answer ≡ Some (look_answer view.ask.title (Missed why))) × Places old new id (Some (point.ViewLooked view need))
 
--- so may want of memory close it
+-- so may being out of memory close it
 abbrev pub LooksTo : ℕ → OpenView → (need : ℕ) → (old new : Entries) → Option Answer → Found Bytes → Type 0
 LooksTo id view need old new answer found =
     ((answer ≡ Some NoMemory) × Places old new id None) ⊎ LooksAt id view need old new answer found
@@ -97,7 +97,7 @@ abbrev pub IsPendingIn : Region → Entries → Title → Bool → Type 0
 IsPendingIn Home entries title pending = IsTrue pending ↔ HasBegun entries title
 IsPendingIn West entries title pending = pending ≡ false
 
--- a snapshot has the request go on, and want of memory closes it
+-- a snapshot has the request go on, and being out of memory closes it
 abbrev pub SnapsView : ℕ → OpenView → (old new : Entries) → Option Answer → Result Snapped Memory → Type 0
 SnapsView id view old new answer (Ok snapped) =
     (answer ≡ None) × Places old new id (Some (point.ViewSnapped view snapped))

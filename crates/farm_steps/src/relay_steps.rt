@@ -18,6 +18,23 @@ use region_state::{Answer, RegionState};
 use wan_cache::RegionStore;
 use wiki_titles::ClientId;
 
+/// A region receives a purge at this moment, and its receipt is noted.
+pub(crate) fn receive<S: RegionStore<Page>>(
+    ledger: &mut Ledger,
+    region: Region,
+    parts: &mut RegionState<S>,
+    purge: u64,
+    now: Moment,
+)
+    requires there { IsSome parts.old.cache }
+    requires later { IsBefore S.cache parts.old now }
+    requires small { now ≤ greatest_moment }
+    ensures { Receives S.cache region parts.old parts.new ledger.old ledger.new purge now }
+{
+    take_message(ledger, parts, purge, now);
+    ledger.receive(purge, region, now);
+}
+
 /// A region's cache takes the purge of this number, if it is one.
 fn take_message<S: RegionStore<Page>>(
     ledger: &Ledger,
@@ -44,33 +61,6 @@ fn take_body<S: RegionStore<Page>>(body: &Body, parts: &mut RegionState<S>, now:
     match body {
         Body::Purge { title, .. } => parts.receive(title, now),
         Body::Position { .. } => {}
-    }
-}
-
-/// A region receives a purge at this moment, and its receipt is noted.
-pub(crate) fn receive<S: RegionStore<Page>>(
-    ledger: &mut Ledger,
-    region: Region,
-    parts: &mut RegionState<S>,
-    purge: u64,
-    now: Moment,
-)
-    requires there { IsSome parts.old.cache }
-    requires later { IsBefore S.cache parts.old now }
-    requires small { now ≤ greatest_moment }
-    ensures { Receives S.cache region parts.old parts.new ledger.old ledger.new purge now }
-{
-    take_message(ledger, parts, purge, now);
-    ledger.receive(purge, region, now);
-}
-
-/// Whether a body that is shown is the message's own; it need not be shown.
-fn is_shown(shown: Option<&Body>, body: &Body) -> bool
-    ensures { result ≡ shows (option_map body_of (option_copied shown.entry)) (body_of body.now) }
-{
-    match shown {
-        Some(shown) => shown.is_same(body),
-        None => true,
     }
 }
 
@@ -129,6 +119,16 @@ fn carriage_of(shown: Option<&Body>, message: Option<&Message>, dropped: bool) -
         Carriage::Gone
     } else {
         carriage_in(&message.body)
+    }
+}
+
+/// Whether a body that is shown is the message's own; it need not be shown.
+fn is_shown(shown: Option<&Body>, body: &Body) -> bool
+    ensures { result ≡ shows (option_map body_of (option_copied shown.entry)) (body_of body.now) }
+{
+    match shown {
+        Some(shown) => shown.is_same(body),
+        None => true,
     }
 }
 

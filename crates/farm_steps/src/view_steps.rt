@@ -36,24 +36,23 @@ use std::alloc::Global;
 use wan_cache::{Look, RegionStore, Value};
 use wiki_titles::Title;
 
-fn title_of(view: OpenView) -> Title
-    ensures { result ≡ view.ask.title }
+/// The step `wait`.
+pub fn wait<S: RegionStore<Page>>(
+    requests: &mut Requests,
+    home: &RegionState<S>,
+    west: &RegionState<S>,
+    at: Readings,
+    id: u64,
+    last: bool,
+) -> Option<Answer>
+    ensures { Waits home.now west.now at id last requests.old.entries requests.new.entries (option_map answer_of result)
+        (arrived_view (open_at requests.old.entries id)) }
 {
-    view.ask.title
-}
-
-/// The answer of a view from a value of its region's cache.
-fn cached(title: Title, origin: Origin, value: Value<Page>) -> Answer
-    ensures { answer_of result ≡ model.Page (answer_from title origin (value_of value)) }
-{
-    Answer::Ok(PageAnswer {
-        title,
-        source: value.upto,
-        origin,
-        put: None,
-        lagged: value.lagged,
-        page: value.page,
-    })
+    let Some(view) = take_arrived_view(requests, id) else {
+        return Some(Answer::NotOpen { id });
+    };
+    let outcome = wait_in(home, west, at, &view, last);
+    waited(requests, id, view, outcome)
 }
 
 fn wait_in<S: RegionStore<Page>>(
@@ -103,23 +102,28 @@ fn waited(requests: &mut Requests, id: u64, view: OpenView, outcome: Wait) -> Op
     }
 }
 
-/// The step `wait`.
-pub fn wait<S: RegionStore<Page>>(
+/// The step `look`.
+pub fn look<S: RegionStore<Page>>(
     requests: &mut Requests,
     home: &RegionState<S>,
     west: &RegionState<S>,
     at: Readings,
     id: u64,
-    last: bool,
 ) -> Option<Answer>
-    ensures { Waits home.now west.now at id last requests.old.entries requests.new.entries (option_map answer_of result)
-        (arrived_view (open_at requests.old.entries id)) }
+    requires home_there { IsSome home.now.cache }
+    requires west_there { IsSome west.now.cache }
+    requires home_before { IsBefore S.cache home.now at.home }
+    requires west_before { IsBefore S.cache west.now at.west }
+    requires home_small { at.home ≤ greatest_moment }
+    requires west_small { at.west ≤ greatest_moment }
+    ensures { Looks S.cache home.now west.now at id requests.old.entries requests.new.entries
+        (option_map answer_of result) (waited_view (open_at requests.old.entries id)) }
 {
-    let Some(view) = take_arrived_view(requests, id) else {
+    let Some((view, need)) = take_waited_view(requests, id) else {
         return Some(Answer::NotOpen { id });
     };
-    let outcome = wait_in(home, west, at, &view, last);
-    waited(requests, id, view, outcome)
+    let found = look_in(home, west, at, &view, need);
+    looked(requests, id, view, need, found)
 }
 
 fn look_in<S: RegionStore<Page>>(
@@ -177,28 +181,24 @@ fn looked(
     }
 }
 
-/// The step `look`.
-pub fn look<S: RegionStore<Page>>(
-    requests: &mut Requests,
-    home: &RegionState<S>,
-    west: &RegionState<S>,
-    at: Readings,
-    id: u64,
-) -> Option<Answer>
-    requires home_there { IsSome home.now.cache }
-    requires west_there { IsSome west.now.cache }
-    requires home_before { IsBefore S.cache home.now at.home }
-    requires west_before { IsBefore S.cache west.now at.west }
-    requires home_small { at.home ≤ greatest_moment }
-    requires west_small { at.west ≤ greatest_moment }
-    ensures { Looks S.cache home.now west.now at id requests.old.entries requests.new.entries
-        (option_map answer_of result) (waited_view (open_at requests.old.entries id)) }
+/// The answer of a view from a value of its region's cache.
+fn cached(title: Title, origin: Origin, value: Value<Page>) -> Answer
+    ensures { answer_of result ≡ model.Page (answer_from title origin (value_of value)) }
 {
-    let Some((view, need)) = take_waited_view(requests, id) else {
-        return Some(Answer::NotOpen { id });
-    };
-    let found = look_in(home, west, at, &view, need);
-    looked(requests, id, view, need, found)
+    Answer::Ok(PageAnswer {
+        title,
+        source: value.upto,
+        origin,
+        put: None,
+        lagged: value.lagged,
+        page: value.page,
+    })
+}
+
+fn title_of(view: OpenView) -> Title
+    ensures { result ≡ view.ask.title }
+{
+    view.ask.title
 }
 
 /// The step `need`.
@@ -211,13 +211,6 @@ pub fn need(requests: &mut Requests, id: u64) -> Option<u64>
     };
     close(requests, id);
     Some(need)
-}
-
-/// Whether an edit of the title is begun.
-fn has_begun(requests: &Requests, title: &Title) -> bool
-    ensures { IsTrue result ↔ HasBegun requests.now.entries title.now }
-{
-    any_begun(requests, title)
 }
 
 fn any_begun(requests: &Requests, title: &Title) -> bool
@@ -249,6 +242,38 @@ pub fn is_pending(requests: &Requests, region: Region, title: &Title) -> bool
         Region::Home => has_begun(requests, title),
         Region::West => false,
     }
+}
+
+/// Whether an edit of the title is begun.
+fn has_begun(requests: &Requests, title: &Title) -> bool
+    ensures { IsTrue result ↔ HasBegun requests.now.entries title.now }
+{
+    any_begun(requests, title)
+}
+
+/// The step `snap`.
+pub fn snap<S: RegionStore<Page>>(
+    alloc: Global,
+    requests: &mut Requests,
+    home: &RegionState<S>,
+    west: &RegionState<S>,
+    at: Readings,
+    id: u64,
+) -> Option<Answer>
+    ensures { SnapsTo home.now west.now at id requests.old.entries requests.new.entries (option_map answer_of result)
+        (looked_view (open_at requests.old.entries id)) }
+{
+    let Some((view, need)) = take_looked_view(requests, id) else {
+        return Some(Answer::NotOpen { id });
+    };
+    let pending = is_pending(requests, view.region, &view.ask.title);
+    let terms = SnapTerms {
+        need,
+        word: view.ask.word,
+        pending,
+    };
+    let made = snap_in(alloc, home, west, at, &view, terms);
+    snapped(requests, id, view, made)
 }
 
 fn snap_in<S: RegionStore<Page>>(
@@ -290,31 +315,6 @@ fn snapped(
     }
 }
 
-/// The step `snap`.
-pub fn snap<S: RegionStore<Page>>(
-    alloc: Global,
-    requests: &mut Requests,
-    home: &RegionState<S>,
-    west: &RegionState<S>,
-    at: Readings,
-    id: u64,
-) -> Option<Answer>
-    ensures { SnapsTo home.now west.now at id requests.old.entries requests.new.entries (option_map answer_of result)
-        (looked_view (open_at requests.old.entries id)) }
-{
-    let Some((view, need)) = take_looked_view(requests, id) else {
-        return Some(Answer::NotOpen { id });
-    };
-    let pending = is_pending(requests, view.region, &view.ask.title);
-    let terms = SnapTerms {
-        need,
-        word: view.ask.word,
-        pending,
-    };
-    let made = snap_in(alloc, home, west, at, &view, terms);
-    snapped(requests, id, view, made)
-}
-
 /// The step `store`: closes the request and answers the page of its snapshot.
 pub fn store<S: RegionStore<Page>>(
     alloc: Global,
@@ -343,13 +343,13 @@ pub fn store<S: RegionStore<Page>>(
     }
 }
 
-fn region_for(view: &ViewAsk) -> Region
-    ensures { result ≡ region_for view.now }
+/// The step `arrive`.
+pub fn arrive(requests: &mut Requests, at: Readings, id: u64, asked: Asked) -> Option<Answer>
+    ensures { Arrives at id asked requests.old.entries requests.new.entries (option_map answer_of result) }
 {
-    if view.use_master {
-        Region::Home
-    } else {
-        view.host
+    match open(requests, id, request_of(at, asked)) {
+        Ok(()) => None,
+        Err(Memory) => Some(Answer::Memory),
     }
 }
 
@@ -370,14 +370,30 @@ fn request_of(at: Readings, asked: Asked) -> OpenRequest
     }
 }
 
-/// The step `arrive`.
-pub fn arrive(requests: &mut Requests, at: Readings, id: u64, asked: Asked) -> Option<Answer>
-    ensures { Arrives at id asked requests.old.entries requests.new.entries (option_map answer_of result) }
+fn region_for(view: &ViewAsk) -> Region
+    ensures { result ≡ region_for view.now }
 {
-    match open(requests, id, request_of(at, asked)) {
-        Ok(()) => None,
-        Err(Memory) => Some(Answer::Memory),
+    if view.use_master {
+        Region::Home
+    } else {
+        view.host
     }
+}
+
+/// The step `apply`.
+pub fn apply<K: Keeper, S: RegionStore<Page>>(
+    keeper: &mut K,
+    home: &mut RegionState<S>,
+    west: &mut RegionState<S>,
+    region: Region,
+    replica: u8,
+    count: u32,
+) -> Option<Answer>
+    requires { replica < length (region_at region home.old west.old).replicas }
+    ensures { AppliesIn (K.content keeper.old) (K.content keeper.new) (K.faults keeper.old) (K.faults keeper.new)
+        home.old west.old home.new west.new region replica count (option_map answer_of result) }
+{
+    applied(apply_in(keeper, home, west, region, replica, count))
 }
 
 fn applied(made: Result<(), KeepFault>) -> Option<Answer>
@@ -406,20 +422,4 @@ fn apply_in<K: Keeper, S: RegionStore<Page>>(
         Region::Home => home.apply(keeper, replica, count),
         Region::West => west.apply(keeper, replica, count),
     }
-}
-
-/// The step `apply`.
-pub fn apply<K: Keeper, S: RegionStore<Page>>(
-    keeper: &mut K,
-    home: &mut RegionState<S>,
-    west: &mut RegionState<S>,
-    region: Region,
-    replica: u8,
-    count: u32,
-) -> Option<Answer>
-    requires { replica < length (region_at region home.old west.old).replicas }
-    ensures { AppliesIn (K.content keeper.old) (K.content keeper.new) (K.faults keeper.old) (K.faults keeper.new)
-        home.old west.old home.new west.new region replica count (option_map answer_of result) }
-{
-    applied(apply_in(keeper, home, west, region, replica, count))
 }

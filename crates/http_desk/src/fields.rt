@@ -80,8 +80,29 @@ pub(crate) fn cookies_in(
 /// A value of a name, and the place after its field.
 #[derive(Clone, Copy, Debug)]
 pub struct FieldValue<'a> {
+    /// The place from which its next value is looked for.
     pub next: usize,
+    /// The bytes of the value.
     pub value: &'a [u8],
+}
+
+// The value of the field, if it has the name.
+fn value_if<'a>(buf: &'a [u8], field: HeaderSpan, name: &[u8]) -> Option<&'a [u8]>
+    requires { IsHeaderWithin (length buf.now) field }
+    ensures { option_map (λ value. value.now) result ≡ value_if name.now (header_bytes buf.now field) }
+{
+    if field.name.of(buf).eq_ignore_ascii_case(name) {
+        Some(field.value.of(buf))
+    } else {
+        None
+    }
+}
+
+fn has_field(buf: &[u8], fields: &[HeaderSpan], name: &[u8]) -> bool
+    requires { AreWithin buf.now fields.now }
+    ensures { result ≡ has_field name.now (fields_of buf.now fields.now) }
+{
+    next_value(buf, fields, 0, name).is_some()
 }
 
 // The next value of the name, from this place on.
@@ -112,23 +133,11 @@ fn next_value<'a>(
     None
 }
 
-// The value of the field, if it has the name.
-fn value_if<'a>(buf: &'a [u8], field: HeaderSpan, name: &[u8]) -> Option<&'a [u8]>
-    requires { IsHeaderWithin (length buf.now) field }
-    ensures { option_map (λ value. value.now) result ≡ value_if name.now (header_bytes buf.now field) }
-{
-    if field.name.of(buf).eq_ignore_ascii_case(name) {
-        Some(field.value.of(buf))
-    } else {
-        None
-    }
-}
-
-fn has_field(buf: &[u8], fields: &[HeaderSpan], name: &[u8]) -> bool
+fn has_good_host(buf: &[u8], fields: &[HeaderSpan], minor: u8) -> bool
     requires { AreWithin buf.now fields.now }
-    ensures { result ≡ has_field name.now (fields_of buf.now fields.now) }
+    ensures { result ≡ has_good_host minor (fields_of buf.now fields.now) }
 {
-    next_value(buf, fields, 0, name).is_some()
+    count(buf, fields, b"host") <= 1 && (minor < 1 || has_field(buf, fields, b"host"))
 }
 
 // How many values the name has.
@@ -143,13 +152,6 @@ fn count(buf: &[u8], fields: &[HeaderSpan], name: &[u8]) -> usize
         at = found.next;
     }
     count
-}
-
-fn has_good_host(buf: &[u8], fields: &[HeaderSpan], minor: u8) -> bool
-    requires { AreWithin buf.now fields.now }
-    ensures { result ≡ has_good_host minor (fields_of buf.now fields.now) }
-{
-    count(buf, fields, b"host") <= 1 && (minor < 1 || has_field(buf, fields, b"host"))
 }
 
 fn are_texts(buf: &[u8], fields: &[HeaderSpan]) -> bool

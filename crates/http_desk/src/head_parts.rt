@@ -57,10 +57,15 @@ pub(crate) fn incoming_at(
 /// The parts of a head, as slices; the fields are spans of `buf`.
 #[derive(Clone, Copy, Debug)]
 pub struct HeadParts<'a> {
+    /// The bytes in which the fields lie.
     pub buf: &'a [u8],
+    /// The fields in their order.
     pub fields: &'a [HeaderSpan],
+    /// The method, as `GET`.
     pub method: &'a [u8],
+    /// The path with its query.
     pub target: &'a [u8],
+    /// The second number of the version: 0 or 1.
     pub minor: u8,
 }
 

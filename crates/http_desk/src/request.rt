@@ -10,10 +10,13 @@ pub enum Call {
     Page(Title),
     /// An edit: `POST` of `/edit` with a form.
     Edit {
+        /// The page that is edited.
         title: Title,
         /// The revision that the edit was made from; 0 is that of no page.
         base: u64,
+        /// Names the edit: a client's edit with the same token is saved once.
         token: Token,
+        /// The page's whole new text.
         text: Text,
     },
     /// 1 to 16 pages: `GET` or `HEAD` of `/batch` with the titles in its query.

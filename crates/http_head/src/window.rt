@@ -16,7 +16,9 @@ const LINES_MAX: usize = FIELDS_MAX + 2; // lines
 /// How many bytes are looked at, and whether no byte after them would be.
 #[derive(Clone, Copy, Debug, PartialEq, Eq)]
 pub struct Extent {
+    /// How many bytes are looked at.
     pub length: usize,
+    /// Whether no byte after them would be.
     pub full: bool,
 }
 

@@ -28,7 +28,7 @@ pub enum Fault {
     BadTarget,
     /// The path leads nowhere.
     NoRoute,
-    /// The route has another method.
+    /// The route has another method: `POST` alone if `post` holds, else `GET` and `HEAD`.
     WrongMethod { post: bool },
     /// A title's decoded bytes are no UTF-8, or no title.
     BadTitle,

@@ -86,9 +86,11 @@ impl Status {
 /// A response.
 #[derive(Debug, Drop)]
 pub struct Reply {
+    /// Its code and phrase.
     pub status: Status,
     /// Whether the body is a page; else it is plain text.
     pub html: bool,
+    /// The bytes after the head; not sent to `HEAD`.
     pub body: Vec<u8>,
     /// The names and values of the fields that only some responses have, in their order.
     pub lines: Vec<(String, String)>,

@@ -16,7 +16,9 @@ use wiki_titles::{ClientId, Title};
 /// The numbers of a purge and of its message, which are the same.
 #[derive(Clone, Copy, Debug, PartialEq, Eq)]
 pub struct Issued {
+    /// The purge's number, by which receipts are found.
     pub purge: u64,
+    /// The number of the message that tells west of it.
     pub message: u64,
 }
 

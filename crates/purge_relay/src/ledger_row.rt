@@ -17,6 +17,7 @@ pub struct Receipt {
 /// A message and what became of it.
 #[derive(Debug, Drop)]
 pub struct LedgerRow {
+    /// The message as it was issued.
     pub message: Message,
     /// It can be carried no more.
     pub dropped: bool,

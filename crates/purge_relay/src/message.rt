@@ -75,5 +75,6 @@ pub fn same_says_equal()
 pub struct Message {
     /// Counted from 1, in the order in which messages were issued.
     pub number: u64,
+    /// What it says.
     pub body: Body,
 }

@@ -6,9 +6,10 @@ ghost use Rattle.purge_relay.specs.declared.message.Message.{Message};
 use crate::message::Message;
 use std::marker::Model;
 
-// Messages in order. Its methods do nothing at run time.
+/// Messages in order. Its methods do nothing at run time.
 #[derive(Drop)]
 pub struct Past {
+    /// All that were carried, the first one first.
     pub ghost messages: { List Message },
 }
 

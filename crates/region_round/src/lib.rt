@@ -10,7 +10,7 @@
 //! is prepared now. So several workers answer as one does, only sooner. (4) The cache goes back to the farm together
 //! with the receipts, and the farm stands for the longer run: a round is one step.
 //!
-//! How a cache is looked into and what may be put stands behind [`desk::Desk`], once for the cache itself.
+//! How a cache is looked into and what may be put stands behind one trait (`Desk`), which the lent cache meets.
 //!
 //! What is left to others: what is kept of a page is `region_state`'s and the cache's to say, that a run goes on by a
 //! round is shown by `farm_core`'s `lend` and `give_back` with the laws of `wiki_model`, and which titles make a batch

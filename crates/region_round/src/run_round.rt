@@ -30,6 +30,7 @@ pub const JOBS_MAX: usize = 16;
 /// What a round is asked for.
 #[derive(Debug, Drop)]
 pub struct RoundAsk {
+    /// Whose cache is looked into.
     pub region: Region,
     /// At most [`JOBS_MAX`].
     pub jobs: Vec<Job>,

@@ -8,6 +8,7 @@ use wiki_titles::Title;
 /// A page that is answered.
 #[derive(Drop)]
 pub struct PageAnswer {
+    /// The page's title.
     pub title: Title,
     /// How many entries the history had of which this is the page.
     pub source: u64,
@@ -17,6 +18,7 @@ pub struct PageAnswer {
     pub put: Option<PutNote>,
     /// Whether it may lack commits that are older than the read lag.
     pub lagged: bool,
+    /// The page itself, shared with the cache.
     pub page: Arc<Page>,
 }
 

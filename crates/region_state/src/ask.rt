@@ -9,6 +9,7 @@ use wiki_titles::{ClientId, Title};
 pub struct ViewAsk {
     /// The region of the host that was asked.
     pub host: Region,
+    /// Who asks.
     pub client: ClientId,
     /// The position that the client's cookie tells, if it sent one.
     pub cookie: Option<PosCookie>,
@@ -16,12 +17,15 @@ pub struct ViewAsk {
     pub use_master: bool,
     /// The word by which one of several replicas is drawn.
     pub word: u64,
+    /// The page that is asked for.
     pub title: Title,
 }
 
 /// A request: a view or an edit.
 #[derive(Debug, Drop)]
 pub enum Asked {
+    /// A page is to be answered.
     View(ViewAsk),
+    /// A page is to be changed.
     Edit(EditAsk),
 }

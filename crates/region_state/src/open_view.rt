@@ -5,6 +5,7 @@ use farm_base::{Moment, Region};
 /// A view with what its arrival fixed.
 #[derive(Debug, Drop)]
 pub struct OpenView {
+    /// The view as it was asked.
     pub ask: ViewAsk,
     /// The region that serves it.
     pub region: Region,

@@ -13,7 +13,9 @@ pub struct RegionPlan {
 /// The layout of a farm.
 #[derive(Debug, Drop)]
 pub struct FarmPlan {
+    /// The region that takes all edits.
     pub home: RegionPlan,
+    /// The other region.
     pub west: RegionPlan,
     /// No page counts that was cached before this moment.
     pub epoch: Moment,

@@ -15,6 +15,7 @@ pub struct SnapTerms {
 /// A snapshot with the choice of its replica.
 #[derive(Debug, Drop)]
 pub struct Snapped {
+    /// What the replica had applied, with the title's page.
     pub snapshot: Snapshot,
     /// The number of the replica, from 0.
     pub replica: u8,

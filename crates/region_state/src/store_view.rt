@@ -34,7 +34,9 @@ pub struct PageRules {
 /// A page that was rendered, to be stored at this moment.
 #[derive(Drop)]
 pub struct MadePage {
+    /// The page, shared with whom it is answered to.
     pub page: Arc<Page>,
+    /// The region's moment.
     pub at: Moment,
     /// The markup by which it was read.
     pub markup: u8,

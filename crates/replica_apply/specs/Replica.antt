@@ -25,7 +25,10 @@ abbrev pub Puts : (old new : BTreeMap Title Text) → Title → Text → Type 0
 Puts old new title text =
     (name : Title) → page_at new name ≡ (if bytes_eq title name then Some text else page_at old name)
 
--- what is kept is all of this history
+-- What is kept is all of this history:
+-- 1. as many entries are applied as it has;
+-- 2. the stamp is that of its last entry, and 0 before the first;
+-- 3. by title the text is that of the title's last commit, and there is none if it has no commit.
 pub record IsPrefix (history : List Entry) (kept : ReplicaState) : Type 0 where
   pub applied : kept.applied ≡ length history
   pub stamp : kept.stamp ≡ stamp_at history (length history)

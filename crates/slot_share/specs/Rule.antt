@@ -36,6 +36,13 @@ module _ {P : Type 0} where
   abbrev pub IsIdle : View P → Type 0
   IsIdle v = ((word : ℕ) → made_at word v.marks ≡ 0) × (v.handed ≡ [])
 
+  -- What always holds of the table:
+  -- 1. it has a word for each mark and a claim for each slot, and a slot at least;
+  -- 2. each mark is as it was at sharing, or the highest that a seat made of it since, and no seat has seen more;
+  -- 3. the seats' parts are all seats together, and no two own one number;
+  -- 4. the claim of a slot is the number of the seat that holds it, or 0, and its row then is at home;
+  -- 5. the values of each row are true, and stood there at sharing or were handed in;
+  -- 6. a seat with no part is idle: it has made no mark, and was handed nothing.
   pub record Keeps (is_true : Truth P) (start : Start P) (s : State (Row P) (View P)) : Type 0 where
     pub long : length s.words ≡ size_of start + slots_of start
     pub some : 0 < size_of start
@@ -43,7 +50,6 @@ module _ {P : Type 0} where
     pub ranks : AreRanked start.seats (map rank_of s.views)
     pub claims : AreClaimed (size_of start) (slots_of start) s.words s.homes (map claim_of s.views)
     pub values : AreValues is_true start s.homes (map keeping_of s.views)
-    -- a seat with no part is idle
     pub idle : (id : ℕ) (v : View P) → get_elem? s.views id ≡ home.some v → v.rank.parts ≡ 0 → IsIdle v
 
   -- Views of seats

@@ -33,7 +33,11 @@ pub record SeatState (P : Type 0) : Type 0 where
   pub greatest : ℕ
 
 module _ {P : Type 0} where
-  -- What always holds of a share.
+  -- What always holds of a share:
+  -- 1. its table has a word for each mark and a claim for each slot, and a row for each slot;
+  -- 2. the marks are the slots' floors and three words more;
+  -- 3. it has a slot at least, and one to eight seats;
+  -- 4. it holds a slot off no longer than a hold-off may last.
   pub record IsShare (share : ShareState P) : Type 0 where
     pub words_are : share.table.words ≡ size_of share.start + slots_of share.start
     pub rows_are : share.table.slots ≡ slots_of share.start
@@ -50,7 +54,11 @@ module _ {P : Type 0} where
     pub rows : rest.rows.items ≡ []
     pub room : rest.slots ≤ rest.rows.cap
 
-  -- What always holds of a seat between two calls: it has a number, and holds nothing.
+  -- What always holds of a seat between two calls:
+  -- 1. its number is that of its view, from 1 to how many seats there are;
+  -- 2. it is one part, and not to be cut;
+  -- 3. it holds no slot, and carries no row;
+  -- 4. it knows of each mark what it has seen and made.
   pub record IsSeat (table : TableId) (me : Me (Row P) (View P)) (number : ℕ) : Type 0 where
     pub number_is : number ≡ me.0.rank.number
     pub positive : 0 < number

@@ -25,6 +25,7 @@ pub const SEATS_MAX: u8 = 8;
 /// There was no memory to share a cache. It comes back as it was.
 #[derive(Drop)]
 pub struct NotShared<P> {
+    /// The cache as it was.
     pub cache: SlotCache<P>,
 }
 

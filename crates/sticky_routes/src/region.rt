@@ -8,6 +8,13 @@ ghost use Rattle.sticky_routes.specs.AsModel.{cookies_of};
 use crate::cookies::Cookies;
 use farm_base::Region;
 
+fn host_name(host: &[u8]) -> &[u8]
+    ensures { result.now ≡ host_name host.now }
+{
+    let (name, _) = host.split_at(host_length(host));
+    name
+}
+
 fn host_length(host: &[u8]) -> usize
     ensures place { result ≡ prefix_len (λ c. not ((c == 46) || (c == 58))) host.now }
     ensures within { result ≤ length host.now }
@@ -20,19 +27,6 @@ fn host_length(host: &[u8]) -> usize
     host.len()
 }
 
-fn host_name(host: &[u8]) -> &[u8]
-    ensures { result.now ≡ host_name host.now }
-{
-    let (name, _) = host.split_at(host_length(host));
-    name
-}
-
-fn is_west(name: &[u8]) -> bool
-    ensures { result ≡ str_eq_ignore_ascii_case name.now (codes "west") }
-{
-    name.eq_ignore_ascii_case(b"west")
-}
-
 /// The region of a host: west if the text before the first `.` or `:` is `west` in any ASCII case, and else home. It
 /// takes no memory.
 pub fn region_of_host(host: &str) -> Region
@@ -43,6 +37,12 @@ pub fn region_of_host(host: &str) -> Region
     } else {
         Region::Home
     }
+}
+
+fn is_west(name: &[u8]) -> bool
+    ensures { result ≡ str_eq_ignore_ascii_case name.now (codes "west") }
+{
+    name.eq_ignore_ascii_case(b"west")
 }
 
 /// The region that a request goes to: home for a POST and for a client that stays with home, and else the host's.

@@ -28,6 +28,7 @@ pub use wiki_model::{SetRule, Stale};
 /// A page as a cache keeps it.
 #[derive(Drop)]
 pub struct Value<P> {
+    /// The page, shared with whom it is answered to.
     pub page: Arc<P>,
     /// How many entries of the history the page is made from: a prefix.
     pub upto: u64,

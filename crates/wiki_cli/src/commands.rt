@@ -228,16 +228,6 @@ where
     }
 }
 
-/// How many entries the history has. The keeper is made ready first.
-fn entries_of<K: Keeper>(keeper: &mut K) -> Result<u64, KeepFault>
-    ensures value { IsLength (K.content keeper.old) result }
-    ensures content { K.content keeper.new ≡ K.content keeper.old }
-    ensures cause { HasFault (K.faults keeper.old) (K.faults keeper.new) result }
-{
-    keeper.start()?;
-    keeper.len()
-}
-
 /// Runs a script, if the history has no entries yet.
 fn perform_script<I: Source, K: Keeper + Drop, O: Sink>(
     alloc: Global,
@@ -280,6 +270,16 @@ fn perform_script<I: Source, K: Keeper + Drop, O: Sink>(
             keeper,
         },
     }
+}
+
+/// How many entries the history has. The keeper is made ready first.
+fn entries_of<K: Keeper>(keeper: &mut K) -> Result<u64, KeepFault>
+    ensures value { IsLength (K.content keeper.old) result }
+    ensures content { K.content keeper.new ≡ K.content keeper.old }
+    ensures cause { HasFault (K.faults keeper.old) (K.faults keeper.new) result }
+{
+    keeper.start()?;
+    keeper.len()
 }
 
 fn perform_on_empty<I: Source, K: Keeper + Drop, O: Sink>(

@@ -30,7 +30,7 @@ mod status;
 mod words;
 
 pub use adapters::{Reading, Writing};
-pub use command::{Command, ScriptCommand, store_of};
+pub use command::{Command, ScriptCommand, read_command, store_of};
 pub use outside::{Outside, run};
 pub use status::Status;
 pub use words::refuse_words;

@@ -30,13 +30,19 @@ use std::thread::Threads;
 /// connections come from, the history, the clocks, random words, and the wire between the regions.
 #[derive(Drop)]
 pub struct Outside<I: Drop, O: Drop, D: Drop, K: Drop, C: Drop, L: Drop, W: Drop> {
+    /// Where a script or a layout comes from.
     pub source: I,
+    /// Where a report goes.
     pub sink: O,
+    /// Where connections come from.
     pub door: D,
     /// The keeper of the history. It is there at each call, and is given back.
     pub keeper: Option<K>,
+    /// The clocks of both regions.
     pub clock: C,
+    /// Random words.
     pub lots: L,
+    /// What carries messages to west.
     pub wire: W,
 }
 

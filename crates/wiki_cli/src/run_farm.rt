@@ -22,7 +22,9 @@ use wan_cache::RegionStore;
 /// What a command leaves: the keeper, and how it ended.
 #[derive(Drop)]
 pub struct Ended<K: Drop> {
+    /// The keeper, with all that was committed.
     pub keeper: K,
+    /// How the command ended.
     pub status: Status,
 }
 

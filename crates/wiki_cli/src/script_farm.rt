@@ -21,7 +21,9 @@ use wan_cache::RegionStore;
 /// The caches of both regions.
 #[derive(Drop)]
 pub struct Caches<S: Drop> {
+    /// Home's cache.
     pub home: S,
+    /// West's cache.
     pub west: S,
 }
 

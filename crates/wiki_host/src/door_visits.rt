@@ -20,7 +20,9 @@ use wiki_serve::{ServedFarm, serve_conn};
 /// A farm that is open, and how many connections are served on it at most.
 #[derive(Drop)]
 pub struct OpenHost<K: Keeper + Drop, S: RegionStore<Page> + Drop> {
+    /// The farm, with how far its messages were sent.
     pub served: ServedFarm<K, S>,
+    /// How many connections are served at most.
     pub wanted: u64,
 }
 

@@ -50,6 +50,7 @@ pub enum HostEnd {
 pub struct Hosted<K: Drop> {
     /// The keeper, with all that was committed.
     pub keeper: K,
+    /// Why it ended.
     pub end: HostEnd,
 }
 

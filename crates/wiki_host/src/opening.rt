@@ -25,7 +25,9 @@ const MARKUP: u8 = 2;
 /// The caches of both regions.
 #[derive(Drop)]
 pub struct Caches<S: Drop> {
+    /// Home's cache.
     pub home: S,
+    /// West's cache.
     pub west: S,
 }
 

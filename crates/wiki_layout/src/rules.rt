@@ -10,8 +10,11 @@ use toml::{Table, Value};
 /// The numbers that may stand at a key, and the one that is meant if it is absent.
 #[derive(Clone, Copy, Debug, PartialEq, Eq)]
 pub(crate) struct Range {
+    /// The least number that is taken.
     pub least: u64,
+    /// The greatest number that is taken.
     pub greatest: u64,
+    /// What is meant if the key is absent.
     pub default: u64,
 }
 

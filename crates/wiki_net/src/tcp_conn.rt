@@ -139,15 +139,18 @@ fn left_after<R: time::Clock>(rt: &R, begun: io::Result<Instant>, left: Duration
     }
 }
 
-// How long the system is told to wait if so much is left: the next whole step.
-fn wait_for(left: Duration) -> Duration {
-    for steps in 1..STEPS {
-        let wait = Duration::from_millis(steps * STEP);
-        if left <= wait {
-            return wait;
-        }
-    }
-    Duration::from_millis(TIME_LIMIT)
+// Reads within the time; none if the system fails or the time passes.
+fn read_within(
+    stream: &mut TcpStream,
+    told: &mut Duration,
+    buf: &mut [u8],
+    left: Duration,
+) -> Option<usize>
+    requires { 0 < length buf.old }
+    ensures { IfSome result (λ n. n ≤ length buf.new) }
+{
+    let_read(stream, told, left)?;
+    stream.read(buf).ok()
 }
 
 // Lets reads wait for as long as is left; none if no time is left or the system fails.
@@ -163,31 +166,15 @@ fn let_read(stream: &TcpStream, told: &mut Duration, left: Duration) -> Option<(
     Some(())
 }
 
-// The same of writes.
-fn let_write(stream: &TcpStream, told: &mut Duration, left: Duration) -> Option<()> {
-    if left.is_zero() {
-        return None;
+// How long the system is told to wait if so much is left: the next whole step.
+fn wait_for(left: Duration) -> Duration {
+    for steps in 1..STEPS {
+        let wait = Duration::from_millis(steps * STEP);
+        if left <= wait {
+            return wait;
+        }
     }
-    let wait = wait_for(left);
-    if wait != *told {
-        stream.set_write_timeout(Some(wait)).ok()?;
-        *told = wait;
-    }
-    Some(())
-}
-
-// Reads within the time; none if the system fails or the time passes.
-fn read_within(
-    stream: &mut TcpStream,
-    told: &mut Duration,
-    buf: &mut [u8],
-    left: Duration,
-) -> Option<usize>
-    requires { 0 < length buf.old }
-    ensures { IfSome result (λ n. n ≤ length buf.new) }
-{
-    let_read(stream, told, left)?;
-    stream.read(buf).ok()
+    Duration::from_millis(TIME_LIMIT)
 }
 
 // Writes within the time. A write that takes nothing has failed.
@@ -202,6 +189,19 @@ fn write_within(
 {
     let_write(stream, told, left)?;
     taken(stream.write(piece))
+}
+
+// The same of writes.
+fn let_write(stream: &TcpStream, told: &mut Duration, left: Duration) -> Option<()> {
+    if left.is_zero() {
+        return None;
+    }
+    let wait = wait_for(left);
+    if wait != *told {
+        stream.set_write_timeout(Some(wait)).ok()?;
+        *told = wait;
+    }
+    Some(())
 }
 
 // Writes two pieces within the time, in one call.
