@@ -1,5 +1,5 @@
-// Eight threads at once.
-ghost use Rattle.std.specs.Prelude.{◌≡◌, ◌≤◌, ◌+◌, All, IfOk, length};
+// Two threads and eight at once.
+ghost use Rattle.std.specs.Prelude.{◌≡◌, ◌<◌, ◌≤◌, ◌+◌, All, IfOk, length};
 
 use crate::worker::{HOLD_OFF, Known, Worker, work};
 use farm_base::{Memory, Moment};
@@ -7,6 +7,7 @@ use rand_pcg::Pcg32;
 use slot_cache::{SLOTS_MIN, SlotCache};
 use slot_share::{AnyValue, CacheSeat, Shared, share};
 use std::alloc::{AllocError, Global};
+use std::process::Abort;
 use std::sync::atomic::AtomicU64;
 use std::test::Fail;
 use std::thread;
@@ -185,12 +186,15 @@ fn floor_told(look: &Look<u64>) -> u64 {
     }
 }
 
-// Shares an empty cache, lets the workers work, and closes it: what they saw, and each key's floor.
-fn storm<R: Threads + Sync>(rt: &R, alloc: Global) -> Result<(Sums, Vec<u64>), Fail> {
+// Shares an empty cache, lets a worker on each seat work, and closes it: what they saw, and each key's floor.
+fn storm<R: Threads + Sync>(rt: &R, alloc: Global, seats: u8) -> Result<(Sums, Vec<u64>), Fail>
+    requires some { 0 < seats }
+    requires few { seats ≤ 8 }
+{
     let keys = titles(alloc)?;
     let clock = AtomicU64::new(1);
     let cache = SlotCache::new(alloc, SLOTS_MIN, HOLD_OFF)?;
-    let Ok((shared, seats)) = share::<AnyValue, u64>(alloc, cache, 8) else {
+    let Ok((shared, seats)) = share::<AnyValue, u64>(alloc, cache, seats) else {
         return Err(Memory)?;
     };
     let mut workers = workers_of(alloc, seats, &shared)?;
@@ -205,8 +209,20 @@ fn storm<R: Threads + Sync>(rt: &R, alloc: Global) -> Result<(Sums, Vec<u64>), F
 }
 
 #[test]
-fn no_purge_is_lost_and_no_hit_is_too_old(rt: HostRuntime) -> Result<(), Fail> {
-    let (sums, floors) = storm(&rt, rt.alloc())?;
+fn no_purge_of_eight_threads_is_lost_and_no_hit_is_too_old(rt: HostRuntime) -> Result<(), Fail> {
+    survives(&rt, rt.alloc(), 8)
+}
+
+#[test]
+fn no_purge_of_two_threads_is_lost_and_no_hit_is_too_old(rt: HostRuntime) -> Result<(), Fail> {
+    survives(&rt, rt.alloc(), 2)
+}
+
+fn survives<R: Threads + Sync + Abort>(rt: &R, alloc: Global, seats: u8) -> Result<(), Fail>
+    requires some { 0 < seats }
+    requires few { seats ≤ 8 }
+{
+    let (sums, floors) = storm(rt, alloc, seats)?;
     assert_eq!(rt; sums.wrong, 0);
     // The last step of all is a purge of the second slot, or of the first one just before it.
     let latest = [sums.first, sums.first, sums.second, sums.second];

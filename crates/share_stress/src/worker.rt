@@ -30,7 +30,7 @@ pub struct Worker {
     pub hits: u64,
     /// How often it met another's claim.
     pub busy: u64,
-    /// How often it hit a value that was set before the floor that it knew, or that is another key's.
+    /// How often it hit a value that was set before the floor that it knew, or was shown another key's.
     pub wrong: u64,
 }
 
@@ -156,6 +156,7 @@ impl Worker {
     {
         match found {
             Look::Hit(value) => self.hit(place, *value.page, value.set_at),
+            Look::Interim(value) => self.shown(place, *value.page),
             Look::Miss(Cause::Purged { floor }) => self.is_told(place, floor.0),
             Look::Miss(Cause::Busy { .. }) => self.busy = self.busy.saturating_add(1),
             _ => {}
@@ -191,6 +192,15 @@ impl Worker {
             self.first = known;
         } else {
             self.second = known;
+        }
+    }
+
+    // Counts an answer from the hold-off, if it is another key's.
+    fn shown(&mut self, place: usize, page: u64)
+        ensures { self.new.seat ≡ self.old.seat }
+    {
+        if page != place as u64 {
+            self.wrong = self.wrong.saturating_add(1);
         }
     }
 
