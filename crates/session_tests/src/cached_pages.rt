@@ -226,9 +226,7 @@ end answers=4 entries=2
     assert_report(&rt, rt.alloc(), script, report)
 }
 
-#[test]
-fn a_commit_in_time_is_purged_once(rt: HostRuntime) -> Result<(), Fail> {
-    let script = "\
+const COMMIT_IN_TIME_SCRIPT: &str = "\
 edit 1 t1 A 0 one
 apply home 0 1
 at 20000 20000
@@ -246,7 +244,8 @@ view home 2 - 0 A
 carry 5
 end
 ";
-    let report = "\
+
+const COMMIT_IN_TIME_REPORT: &str = "\
 1 saved entry=1 revision=1 cookie=1@0
 7 saved entry=2 revision=2 cookie=2@23
 11 ok source=3 from=replica:0 lagged=0 bytes=55
@@ -267,7 +266,15 @@ end
 15 unknown message=5
 end answers=6 entries=3
 ";
-    assert_report(&rt, rt.alloc(), script, report)
+
+#[test]
+fn a_commit_in_time_is_purged_once(rt: HostRuntime) -> Result<(), Fail> {
+    assert_report(
+        &rt,
+        rt.alloc(),
+        COMMIT_IN_TIME_SCRIPT,
+        COMMIT_IN_TIME_REPORT,
+    )
 }
 
 #[test]

@@ -2,9 +2,7 @@
 use crate::setting::assert_report;
 use std::test::Fail;
 
-#[test]
-fn a_late_commit_is_purged_again(rt: HostRuntime) -> Result<(), Fail> {
-    let script = "\
+const LATE_COMMIT_SCRIPT: &str = "\
 edit 1 t1 A 0 one
 apply home 0 1
 at 20000 20000
@@ -22,7 +20,8 @@ view home 2 - 0 A
 carry 5
 end
 ";
-    let report = "\
+
+const LATE_COMMIT_REPORT: &str = "\
 1 saved entry=1 revision=1 cookie=1@0
 7 saved entry=2 revision=2 cookie=2@23
 11 ok source=3 from=replica:0 lagged=0 bytes=55
@@ -42,7 +41,10 @@ end
 <p>two</p>
 end answers=5 entries=3
 ";
-    assert_report(&rt, rt.alloc(), script, report)
+
+#[test]
+fn a_late_commit_is_purged_again(rt: HostRuntime) -> Result<(), Fail> {
+    assert_report(&rt, rt.alloc(), LATE_COMMIT_SCRIPT, LATE_COMMIT_REPORT)
 }
 
 const LATE_PURGE_SCRIPT: &str = "\
