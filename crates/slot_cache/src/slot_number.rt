@@ -1,7 +1,8 @@
 // Which slot a title has.
-ghost use Rattle.std.specs.Prelude.{◌≡◌, ◌<◌};
+ghost use Rattle.std.specs.Prelude.{◌≡◌, ◌<◌, ◌%◌};
 ghost use Rattle.slot_cache.specs.Slots.{slot_of};
 
+use crate::slot_cache::SLOTS_MAX;
 use md5::{Digest, Md5};
 use wiki_titles::Title;
 
@@ -16,5 +17,19 @@ pub fn slot_of(key: &Title, slots: u32) -> u32
     let head = [
         digest[0], digest[1], digest[2], digest[3], digest[4], digest[5], digest[6], digest[7],
     ];
-    (u64::from_be_bytes(head) % u64::from(slots)) as u32
+    number_below(u64::from_be_bytes(head), slots)
+}
+
+// The number modulo the number of slots. Beside the digest a division is the dearest part of a look, and the usual number
+// of slots needs none.
+fn number_below(number: u64, slots: u32) -> u32
+    requires { 0 < slots }
+    ensures value { result ≡ number % slots }
+    ensures below { result < slots }
+{
+    if slots == SLOTS_MAX {
+        u32::from(number as u16)
+    } else {
+        (number % u64::from(slots)) as u32
+    }
 }

@@ -55,6 +55,7 @@ fn join_all<P, M: Marker<P>>(table: &Table<M, P>, seats: Vec<CacheSeat<M, P>>) -
         chair: mut all,
         number: _,
         greatest: _,
+        apart: _,
         marker: _,
     } = last;
     while let Some(seat) = seats.pop() {
@@ -62,6 +63,7 @@ fn join_all<P, M: Marker<P>>(table: &Table<M, P>, seats: Vec<CacheSeat<M, P>>) -
             chair,
             number: _,
             greatest: _,
+            apart: _,
             marker: _,
         } = seat;
         join(table, &mut all, chair);

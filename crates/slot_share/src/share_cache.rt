@@ -213,6 +213,7 @@ fn add_seat<P, M>(seats: &mut Vec<CacheSeat<M, P>>, chair: Chair<P>, number: u64
         chair,
         number,
         greatest,
+        apart: [0; 14],
         marker: PhantomData,
     };
     let Ok(()) = seats.push(seat) else {

@@ -56,6 +56,9 @@ pub struct CacheSeat<M, P> {
     pub(crate) number: u64,
     /// The greatest moment that a call was given.
     pub(crate) greatest: Moment,
+    /// Nothing. Each call writes the moment, and seats stand side by side in a list: so no two are on one line of a
+    /// processor's cache.
+    pub(crate) apart: [u64; 14],
     pub(crate) marker: PhantomData<M>,
 }
 
