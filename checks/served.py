@@ -252,9 +252,9 @@ def edit(title, base, token, text, **fields):
 
 
 def ask(request, of_head=False, tries=5):
-    """The response to a request on a connection of its own. The wiki ends a connection that took 800 ms, its own work included,
-    without a response; on a machine that is busy the request is then sent again, as often as this says. An edit is saved once
-    all the same."""
+    """The response to a request on a connection of its own. The wiki ends a connection, without a response, if it had to wait for
+    its client for 800 ms; this script may be that slow on a machine that is busy, and the request is then sent again, as often as
+    this says. An edit is saved once all the same."""
     for left in reversed(range(tries)):
         begun = time.monotonic()
         try:
