@@ -28,7 +28,7 @@ fn number_below(number: u64, slots: u32) -> u32
     ensures below { result < slots }
 {
     if slots == SLOTS_MAX {
-        u32::from(number as u16)
+        (number % u64::from(SLOTS_MAX)) as u32
     } else {
         (number % u64::from(slots)) as u32
     }
