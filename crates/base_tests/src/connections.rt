@@ -35,7 +35,6 @@ fn a_connection_moves_a_byte_at_a_time(rt: HostRuntime) -> Result<(), Fail> {
     Ok(())
 }
 
-// A door over two connections, of which these calls fail.
 #[test]
 fn two_pieces_are_written_whole_or_up_to_a_failed_write(rt: HostRuntime) -> Result<(), Fail> {
     let alloc = rt.alloc();
@@ -49,6 +48,7 @@ fn two_pieces_are_written_whole_or_up_to_a_failed_write(rt: HostRuntime) -> Resu
     Ok(())
 }
 
+// A door over two connections, of which these calls fail.
 fn two_at_a_door(alloc: Global, failing: &[u64]) -> Result<MemDoor, Fail> {
     let mut conns = Vec::new(alloc);
     conns.push(byte_by_byte(alloc, "a", &[], &[])?)?;
