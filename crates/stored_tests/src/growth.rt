@@ -1,6 +1,5 @@
 // That no statement goes over the history: each is asked of a long one, where none may visit more than a few rows.
-use crate::setting::{Questions, answers, edit_of, new_keeper};
-use crate::twins::Twins;
+use crate::setting::new_keeper;
 use commit_feed::Entry;
 use farm_base::Moment;
 use revision_keeper::Keeper;
