@@ -5,6 +5,7 @@ use farm_base::{MemClock, MemConn, MemDoor, MemLots, MemSink, MemSource, Moment,
 use purge_relay::FarmWire;
 use revision_keeper::{Keeper, MemKeeper};
 use std::alloc::Global;
+use std::process::Abort;
 use std::str;
 use std::test::Fail;
 use std::thread::Threads;
@@ -195,16 +196,73 @@ fn a_door_that_has_no_more_ends_the_serving(rt: HostRuntime) -> Result<(), Fail>
     Ok(())
 }
 
+// A layout, and the first rule that it breaks: it is no document, a name is unknown, a value is of another kind, a
+// number is out of its range.
+const REFUSED: [(&str, u8); 9] = [
+    ("=", 1),
+    ("[home\n", 1),
+    ("[edge]\n", 2),
+    ("[home]\nslots = 1\n\n[edge]\n", 2),
+    ("[farm]\npace = \"x\"\n", 3),
+    ("[farm]\npace = 0\n", 4),
+    ("[farm]\nskew = 0\n", 4),
+    ("[home]\nslots = 1\n", 4),
+    ("[west]\nweights = []\n", 4),
+];
+
 #[test]
-fn a_layout_is_refused_by_its_rule(rt: HostRuntime) -> Result<(), Fail> {
+fn a_layout_is_refused_by_the_first_rule_that_it_breaks(rt: HostRuntime) -> Result<(), Fail> {
+    for (layout, rule) in REFUSED {
+        assert_refused(&rt, rt.alloc(), layout, rule)?;
+    }
+    Ok(())
+}
+
+fn assert_refused<R: Abort + Threads + Sync>(
+    rt: &R,
+    alloc: Global,
+    layout: &str,
+    rule: u8,
+) -> Result<(), Fail> {
     let given = Given {
-        layout: "[home]\nslots = 1\n",
+        layout,
         ..serving(&["serve"], &[READING])
     };
-    let found = outcome_of(&rt, rt.alloc(), given)?;
-    assert_eq!(rt; found.text.as_str(), "layout rule=4\n");
-    assert_eq!(rt; found.status, Status::Layout { rule: 4 });
+    let found = outcome_of(rt, alloc, given)?;
+    let wanted = format!(in alloc; "layout rule={rule}\n")?;
+    assert_eq!(rt; found.text.as_str(), wanted.as_str());
+    assert_eq!(rt; found.status, Status::Layout { rule });
     assert!(rt; found.door.returned(0).is_none());
+    Ok(())
+}
+
+const WHOLE: &str = "\
+[home]
+weights = [3, 1]
+slots = 4096
+
+[west]
+weights = [1]
+slots = 4096
+
+[farm]
+epoch = 0
+workers = 2
+pace = 1000
+";
+
+#[test]
+fn a_layout_may_name_each_key(rt: HostRuntime) -> Result<(), Fail> {
+    let alloc = rt.alloc();
+    let given = Given {
+        layout: WHOLE,
+        ..serving(&["serve"], &[SAVING])
+    };
+    let found = outcome_of(&rt, alloc, given)?;
+    assert_eq!(rt; found.text.as_str(), "served connections=1\n");
+    assert_eq!(rt; found.status, Status::Ok);
+    let first = said(alloc, &found.door, 0)?;
+    assert_eq!(rt; first.as_str(), SAVED);
     Ok(())
 }
 

@@ -75,7 +75,7 @@ fn the_answers_of_a_made_script_are_counted(rt: HostRuntime) -> Result<(), Fail>
     Ok(())
 }
 
-const NUMBERS: [(Status, u8); 8] = [
+const NUMBERS: [(Status, u8); 10] = [
     (Status::Ok, 0),
     (Status::Usage, 2),
     (Status::Script { line: 7 }, 3),
@@ -83,7 +83,9 @@ const NUMBERS: [(Status, u8); 8] = [
     (Status::WriteFault, 5),
     (Status::StoreFault, 6),
     (Status::Memory, 7),
+    (Status::DoorFault, 8),
     (Status::NotEmpty { entries: 7 }, 9),
+    (Status::Layout { rule: 7 }, 10),
 ];
 
 #[test]
