@@ -235,23 +235,33 @@ fn a_position_is_known_to_its_last_moment_after_a_restart(rt: HostRuntime) -> Re
     Ok(())
 }
 
+// Of the first keeper only the database comes over.
 #[test]
 fn a_second_farm_finds_what_was_served(rt: HostRuntime) -> Result<(), Fail> {
     let alloc = rt.alloc();
     let conn = Connection::open_in_memory(alloc)?;
-    serves_again(&rt, alloc, SqliteKeeper::new(alloc, Ok(conn)))
+    let keeper = serves_first(&rt, alloc, SqliteKeeper::new(alloc, Ok(conn)))?;
+    serves_again(&rt, alloc, SqliteKeeper::new(alloc, keeper.into_opened()))
 }
 
-// Entry 1 is the first hosting's beat, 2 the edit, and 3 the beat of the second hosting, where west's replica has one
-// entry and then two.
+// Entry 1 is the beat, 2 the edit.
+fn serves_first<R: Threads + Sync + Abort, K: Keeper + Drop>(
+    rt: &R,
+    alloc: Global,
+    keeper: K,
+) -> Result<K, Fail> {
+    let input = format!(in alloc; "{OTHERS_EDIT}{STRANGER_IN_WEST}")?;
+    let Told { keeper, text } = tell(rt, alloc, keeper, FAST, &input, 5_000)?;
+    assert!(rt; text.as_str().ends_with(OLDER));
+    Ok(keeper)
+}
+
+// Entry 3 is the beat of the second hosting, where west's replica has one entry and then two.
 fn serves_again<R: Threads + Sync + Abort, K: Keeper + Drop>(
     rt: &R,
     alloc: Global,
     keeper: K,
 ) -> Result<(), Fail> {
-    let input = format!(in alloc; "{OTHERS_EDIT}{STRANGER_IN_WEST}")?;
-    let Told { keeper, text } = tell(rt, alloc, keeper, FAST, &input, 5_000)?;
-    assert!(rt; text.as_str().ends_with(OLDER));
     let input = format!(in alloc; "{STRANGER_IN_WEST}{STRANGER_IN_WEST}")?;
     let Told { text, .. } = tell(rt, alloc, keeper, SLOW, &input, 6_000)?;
     let wanted = format!(in alloc; "{NO_PAGE}{OLDER}")?;
