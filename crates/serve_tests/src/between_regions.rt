@@ -1,14 +1,11 @@
 // Messages that are sent and taken before a request, and what the second region then knows.
-use crate::setting::{conn_of, serve_at, small_farm};
-use farm_base::Region;
-use farm_core::Page;
+use crate::setting::{conn_of, has_received, has_sent, serve_at, small_farm};
 use purge_relay::{Deal, FarmWire, Wire};
 use revision_keeper::{Keeper, MemKeeper};
 use std::process::Abort;
 use std::test::Fail;
 use std::thread::Threads;
-use wan_cache::RegionStore;
-use wiki_serve::{ConnEnd, ServedFarm};
+use wiki_serve::ConnEnd;
 
 #[test]
 fn messages_are_sent_and_carried_before_the_next_request(rt: HostRuntime) -> Result<(), Fail> {
@@ -37,26 +34,6 @@ Host: wiki.example\r
     assert_eq!(rt; served.farm.issued(), 2);
     has_sent(rt, &served, 2)?;
     has_received(rt, &served, true)
-}
-
-// So many messages were sent.
-fn has_sent<K: Keeper, S: RegionStore<Page>>(
-    rt: &impl Abort,
-    served: &ServedFarm<K, S>,
-    count: u64,
-) -> Result<(), Fail> {
-    assert_eq!(rt; served.sent, count);
-    Ok(())
-}
-
-// Whether west has received the first purge.
-fn has_received<K: Keeper, S: RegionStore<Page>>(
-    rt: &impl Abort,
-    served: &ServedFarm<K, S>,
-    wanted: bool,
-) -> Result<(), Fail> {
-    assert_eq!(rt; served.farm.receipt(1, Region::West).is_some(), wanted);
-    Ok(())
 }
 
 #[test]

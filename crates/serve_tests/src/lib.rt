@@ -4,10 +4,13 @@
 //! new test goes:
 //!
 //! - `browsing`: an edit and a view, what they are answered byte for byte, and how a connection ends;
-//! - `hostile`: input that is cut, refused or too large, and writes that fail;
+//! - `hostile`: input that is refused or too large, and the first call of a connection that fails;
+//! - `faults`: each fault that one edit may meet, at each place: input that is cut, reads and writes, the keeper, the
+//!   wire;
 //! - `batches`: several pages at once;
 //! - `between_regions`: messages that are sent and taken before a request, and the second region;
-//! - `setting`: a small farm, and serving bytes on it.
+//! - `failing_wire`: a wire of which sends fail;
+//! - `setting`: a small farm, the first edit and its answer, and serving bytes on the farm.
 //!
 //! A test makes its keeper and hands it to a helper over any keeper: with the keeper's type in it a proof takes minutes.
 //! Serving goes through one function of `setting`, over any connection, clock, lots and wire.
@@ -21,6 +24,10 @@ mod batches;
 mod between_regions;
 #[cfg(test)]
 mod browsing;
+#[cfg(test)]
+mod failing_wire;
+#[cfg(test)]
+mod faults;
 #[cfg(test)]
 mod hostile;
 #[cfg(test)]

@@ -1,15 +1,80 @@
 // A small farm over any keeper, and serving bytes on it.
 use drill_script::{Script, read_script};
-use farm_base::{BOUND_MAX, Clock, Conn, Lots, MemClock, MemConn, MemLots, Moment, Readings};
+use farm_base::{
+    BOUND_MAX, Clock, Conn, Lots, MemClock, MemConn, MemLots, Moment, Readings, Region,
+};
 use farm_core::{Farm, Page};
 use purge_relay::{FarmWire, Wire};
 use revision_keeper::{Keeper, MemKeeper};
 use slot_cache::SlotCache;
 use std::alloc::Global;
+use std::process::Abort;
 use std::str;
 use std::test::Fail;
 use std::thread::Threads;
+use wan_cache::RegionStore;
 use wiki_serve::{ConnEnd, ServedFarm, serve_conn};
+
+/// The first edit of a page, by a client with a cookie.
+pub const SAVING: &str = "\
+POST /edit HTTP/1.1\r
+Host: wiki.example\r
+Content-Type: application/x-www-form-urlencoded\r
+Content-Length: 45\r
+Cookie: theme=dark; cpPosIndex=1%405%2300000000000000000000000000000001\r
+\r
+title=Caf%C3%A9_menu&base=0&token=k1&text=one";
+
+/// A view of that page with the cookie that the edit was answered with, as a browser asks.
+pub const READING: &str = "\
+GET /wiki/Caf%C3%A9_menu HTTP/1.1\r
+Host: wiki.example\r
+User-Agent: Browser/1.0\r
+Accept: text/html\r
+Accept-Language: en\r
+Accept-Encoding: gzip\r
+DNT: 1\r
+Connection: keep-alive\r
+Upgrade-Insecure-Requests: 1\r
+Sec-Fetch-Dest: document\r
+Sec-Fetch-Mode: navigate\r
+Sec-Fetch-Site: same-origin\r
+Referer: http://wiki.example/wiki/A\r
+Pragma: no-cache\r
+Cache-Control: no-cache\r
+Cookie: theme=dark; cpPosIndex=1@5#00000000000000000000000000000001; UseDC=master\r
+\r
+";
+
+/// What the edit is answered at 5,000 on an empty farm: entry 1 is the beat before it.
+pub const SAVED: &str = "\
+HTTP/1.1 303 See Other\r
+Content-Type: text/plain; charset=utf-8\r
+Content-Length: 36\r
+Location: /wiki/Caf%C3%A9_menu\r
+Set-Cookie: cpPosIndex=1@5#00000000000000000000000000000001; Max-Age=10; Path=/\r
+Set-Cookie: UseDC=master; Max-Age=10; Path=/\r
+Set-Cookie: UseCDNCache=false; Max-Age=10; Path=/\r
+Connection: keep-alive\r
+\r
+saved entry=2 revision=1 cookie=1@5
+";
+
+/// What the view is answered after it.
+pub const READ: &str = "\
+HTTP/1.1 200 OK\r
+Content-Type: text/html; charset=utf-8\r
+Content-Length: 73\r
+Wiki-Source: 2\r
+Wiki-From: replica:0\r
+Wiki-Lagged: 0\r
+Connection: keep-alive\r
+\r
+<!DOCTYPE html>
+<title>Café menu</title>
+<h1>Café menu</h1>
+<p>one</p>
+";
 
 /// How many entries a replica applies before a request, unless a layout says otherwise.
 const PACE: u32 = 1_000; // entries
@@ -18,6 +83,15 @@ const PACE: u32 = 1_000; // entries
 pub fn small_farm<K: Keeper + Drop>(
     alloc: Global,
     keeper: K,
+) -> Result<ServedFarm<K, SlotCache<Page>>, Fail> {
+    farm_of_slots(alloc, keeper, 65_536)
+}
+
+/// The same, with this number of slots in each cache.
+pub fn farm_of_slots<K: Keeper + Drop>(
+    alloc: Global,
+    keeper: K,
+    slots: u32,
 ) -> Result<ServedFarm<K, SlotCache<Page>>, Fail> {
     let Script { plan, .. } = read_script(alloc, b"end\n")?;
     let mut plan = plan;
@@ -28,8 +102,11 @@ pub fn small_farm<K: Keeper + Drop>(
     if !weights || plan.bounds.commit_delay > BOUND_MAX || hold_off == 0 || hold_off > 180_000 {
         return Err(Fail::new("no plan of a farm"));
     }
-    let home = SlotCache::new(alloc, 65_536, hold_off)?;
-    let west = SlotCache::new(alloc, 65_536, hold_off)?;
+    if slots < 256 || 65_536 < slots {
+        return Err(Fail::new("a cache has from 256 to 65,536 slots"));
+    }
+    let home = SlotCache::new(alloc, slots, hold_off)?;
+    let west = SlotCache::new(alloc, slots, hold_off)?;
     match Farm::new(alloc, keeper, plan, home, west, both(5_000)) {
         Ok(farm) => Ok(ServedFarm { farm, sent: 0 }),
         Err(_) => Err(Fail::new("no farm")),
@@ -151,4 +228,24 @@ fn serve_over<R: AllocGlobal + Threads + Sync, K: Keeper + Drop, X: Conn>(
 /// What was written over the connection.
 pub fn written(alloc: Global, conn: &MemConn) -> Result<String, Fail> {
     Ok(String::from_str(alloc, str::from_utf8(conn.written())?)?)
+}
+
+/// So many messages were sent.
+pub fn has_sent<K: Keeper, S: RegionStore<Page>>(
+    rt: &impl Abort,
+    served: &ServedFarm<K, S>,
+    count: u64,
+) -> Result<(), Fail> {
+    assert_eq!(rt; served.sent, count);
+    Ok(())
+}
+
+/// Whether west has received the first purge.
+pub fn has_received<K: Keeper, S: RegionStore<Page>>(
+    rt: &impl Abort,
+    served: &ServedFarm<K, S>,
+    wanted: bool,
+) -> Result<(), Fail> {
+    assert_eq!(rt; served.farm.receipt(1, Region::West).is_some(), wanted);
+    Ok(())
 }
