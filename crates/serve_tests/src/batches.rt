@@ -1,8 +1,7 @@
 // Several pages at once, byte for byte.
-use crate::setting::{both, conn_of, serve_at, serve_by, small_farm, written};
-use edit_core::EditAsk;
+use crate::setting::{both, conn_of, said_later, saved_three, serve_by, small_farm, written};
 use farm_base::{MemClock, Region};
-use farm_core::{Asked, Farm, Page};
+use farm_core::{Farm, Page};
 use purge_relay::{Deal, FarmWire};
 use revision_keeper::{Keeper, MemKeeper};
 use slot_cache::SlotCache;
@@ -12,38 +11,6 @@ use std::test::Fail;
 use std::thread::Threads;
 use wan_cache::RegionStore;
 use wiki_serve::{ConnEnd, ServedFarm};
-use wiki_titles::{ClientId, Text, Title, Token};
-
-/// Saves the first text of a page at 5,000, without housekeeping. Its title is its token.
-fn save<K: Keeper, S: RegionStore<Page>>(
-    alloc: Global,
-    farm: &mut Farm<K, S>,
-    title: &str,
-    text: &str,
-) -> Result<(), Fail> {
-    let asked = Asked::Edit(EditAsk {
-        client: ClientId::number(1),
-        token: Token::parse(alloc, title)?,
-        title: Title::parse(alloc, title)?,
-        base: 0,
-        text: Text::parse(alloc, text)?,
-    });
-    if farm.is_open(1) || farm.arrive(both(5_000), 1, asked).is_some() {
-        return Err(Fail::new("the edit did not arrive"));
-    }
-    commit(farm)
-}
-
-fn commit<K: Keeper, S: RegionStore<Page>>(farm: &mut Farm<K, S>) -> Result<(), Fail> {
-    if !farm.is_whole() || farm.begin(both(5_000), 1).is_some() {
-        return Err(Fail::new("the edit did not begin"));
-    }
-    if !farm.is_whole() {
-        return Err(Fail::new("a cache is lent"));
-    }
-    farm.commit(both(5_000), 1);
-    Ok(())
-}
 
 fn carry<K: Keeper, S: RegionStore<Page>>(farm: &mut Farm<K, S>, number: u64) -> Result<(), Fail> {
     if !farm.is_whole() || farm.carry(both(5_000), number, None).is_some() {
@@ -57,20 +24,10 @@ fn farm_of_three<K: Keeper + Drop>(
     alloc: Global,
     keeper: K,
 ) -> Result<ServedFarm<K, SlotCache<Page>>, Fail> {
-    let mut served = small_farm(alloc, keeper)?;
-    save_three(alloc, &mut served.farm)?;
+    let mut served = saved_three(alloc, keeper)?;
+    carry(&mut served.farm, 1)?;
+    carry(&mut served.farm, 5)?;
     Ok(served)
-}
-
-fn save_three<K: Keeper, S: RegionStore<Page>>(
-    alloc: Global,
-    farm: &mut Farm<K, S>,
-) -> Result<(), Fail> {
-    save(alloc, farm, "A", "one")?;
-    save(alloc, farm, "B", "two")?;
-    save(alloc, farm, "C", "six")?;
-    carry(farm, 1)?;
-    carry(farm, 5)
 }
 
 /// What is written for this input at 30,000, where the wire has B's purge and no other message.
@@ -82,11 +39,7 @@ fn said_for<R: AllocGlobal + Threads + Sync, K: Keeper>(
     let mut deals = Vec::new(rt.alloc());
     deals.push(Deal::Carry(3))?;
     let mut wire = FarmWire::scripted(rt.alloc(), deals);
-    let mut conn = conn_of(rt.alloc(), input.as_bytes(), 65_536)?;
-    match serve_at(rt, served, &mut conn, &mut wire, 30_000)? {
-        ConnEnd::Closed => written(rt.alloc(), &conn),
-        _ => Err(Fail::new("the connection was not closed")),
-    }
+    said_later(rt, served, &mut wire, input)
 }
 
 /// The same on a farm of three over this keeper.
@@ -136,7 +89,7 @@ Connection: keep-alive\r
 <p>six</p>
 HTTP/1.1 200 OK\r
 Content-Type: text/plain; charset=utf-8\r
-Content-Length: 292\r
+Content-Length: 294\r
 Connection: keep-alive\r
 \r
 1 ok source=4 from=hit lagged=0 bytes=55
@@ -144,7 +97,7 @@ Connection: keep-alive\r
 <title>A</title>
 <h1>A</h1>
 <p>one</p>
-2 ok source=4 from=interim lagged=0 bytes=55
+2 ok source=4 from=replica:0 lagged=0 bytes=55
 <!DOCTYPE html>
 <title>B</title>
 <h1>B</h1>

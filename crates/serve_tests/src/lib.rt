@@ -8,9 +8,10 @@
 //! - `faults`: each fault that one edit may meet, at each place: input that is cut, reads and writes, the keeper, the
 //!   wire;
 //! - `batches`: several pages at once;
+//! - `receipts`: purges that come with a batch, which its round receives, or which are carried;
 //! - `between_regions`: messages that are sent and taken before a request, and the second region;
 //! - `failing_wire`: a wire of which sends fail;
-//! - `setting`: a small farm, the first edit and its answer, and serving bytes on the farm.
+//! - `setting`: a small farm, one of three pages, the first edit and its answer, and serving bytes on the farm.
 //!
 //! A test makes its keeper and hands it to a helper over any keeper: with the keeper's type in it a proof takes minutes.
 //! Serving goes through one function of `setting`, over any connection, clock, lots and wire.
@@ -30,5 +31,7 @@ mod failing_wire;
 mod faults;
 #[cfg(test)]
 mod hostile;
+#[cfg(test)]
+mod receipts;
 #[cfg(test)]
 mod setting;

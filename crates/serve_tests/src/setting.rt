@@ -1,9 +1,10 @@
 // A small farm over any keeper, and serving bytes on it.
 use drill_script::{Script, read_script};
+use edit_core::EditAsk;
 use farm_base::{
     BOUND_MAX, Clock, Conn, Lots, MemClock, MemConn, MemLots, Moment, Readings, Region,
 };
-use farm_core::{Farm, Page};
+use farm_core::{Asked, Farm, Page};
 use purge_relay::{FarmWire, Wire};
 use revision_keeper::{Keeper, MemKeeper};
 use slot_cache::SlotCache;
@@ -14,6 +15,7 @@ use std::test::Fail;
 use std::thread::Threads;
 use wan_cache::RegionStore;
 use wiki_serve::{ConnEnd, ServedFarm, serve_conn};
+use wiki_titles::{ClientId, Text, Title, Token};
 
 /// The first edit of a page, by a client with a cookie.
 pub const SAVING: &str = "\
@@ -111,6 +113,49 @@ pub fn farm_of_slots<K: Keeper + Drop>(
         Ok(farm) => Ok(ServedFarm { farm, sent: 0 }),
         Err(_) => Err(Fail::new("no farm")),
     }
+}
+
+/// A farm where A, B and C were saved at 5,000. Messages 1, 3 and 5 are their purges.
+pub fn saved_three<K: Keeper + Drop>(
+    alloc: Global,
+    keeper: K,
+) -> Result<ServedFarm<K, SlotCache<Page>>, Fail> {
+    let mut served = small_farm(alloc, keeper)?;
+    save(alloc, &mut served.farm, "A", "one")?;
+    save(alloc, &mut served.farm, "B", "two")?;
+    save(alloc, &mut served.farm, "C", "six")?;
+    Ok(served)
+}
+
+/// Saves the first text of a page at 5,000, without housekeeping. Its title is its token.
+fn save<K: Keeper, S: RegionStore<Page>>(
+    alloc: Global,
+    farm: &mut Farm<K, S>,
+    title: &str,
+    text: &str,
+) -> Result<(), Fail> {
+    let asked = Asked::Edit(EditAsk {
+        client: ClientId::number(1),
+        token: Token::parse(alloc, title)?,
+        title: Title::parse(alloc, title)?,
+        base: 0,
+        text: Text::parse(alloc, text)?,
+    });
+    if farm.is_open(1) || farm.arrive(both(5_000), 1, asked).is_some() {
+        return Err(Fail::new("the edit did not arrive"));
+    }
+    commit(farm)
+}
+
+fn commit<K: Keeper, S: RegionStore<Page>>(farm: &mut Farm<K, S>) -> Result<(), Fail> {
+    if !farm.is_whole() || farm.begin(both(5_000), 1).is_some() {
+        return Err(Fail::new("the edit did not begin"));
+    }
+    if !farm.is_whole() {
+        return Err(Fail::new("a cache is lent"));
+    }
+    farm.commit(both(5_000), 1);
+    Ok(())
 }
 
 /// Both clocks read this.
@@ -223,6 +268,20 @@ fn serve_over<R: AllocGlobal + Threads + Sync, K: Keeper + Drop, X: Conn>(
     let mut served = small_farm(rt.alloc(), keeper)?;
     let mut wire = FarmWire::new(rt.alloc());
     serve_at(rt, &mut served, conn, &mut wire, 5_000)
+}
+
+/// What is written for this input at 30,000, over this wire.
+pub fn said_later<R: AllocGlobal + Threads + Sync, K: Keeper, W: Wire>(
+    rt: &R,
+    served: &mut ServedFarm<K, SlotCache<Page>>,
+    wire: &mut W,
+    input: &str,
+) -> Result<String, Fail> {
+    let mut conn = conn_of(rt.alloc(), input.as_bytes(), 65_536)?;
+    match serve_at(rt, served, &mut conn, wire, 30_000)? {
+        ConnEnd::Closed => written(rt.alloc(), &conn),
+        _ => Err(Fail::new("the connection was not closed")),
+    }
 }
 
 /// What was written over the connection.

@@ -1,5 +1,5 @@
 -- A whole request ends at its first answer, since that closes it: every answer of a step but a miss does.
-use Rattle.std.proofs.Common.{◌≡◌, ℕ, ◌+◌, ◌≤◌, ◌⊎◌, inl, inr, Bool, true, false, List, [], ◌∷◌, ◌++◌, Option, Some, None, refl, sym, ap, subst, ◌∙◌, arith, nat_eq}
+use Rattle.std.proofs.Common.{◌≡◌, ℕ, ◌≤◌, ◌⊎◌, inl, inr, true, false, List, [], ◌∷◌, ◌++◌, Option, Some, None, refl, sym, ap, subst, ◌∙◌, arith}
 use Rattle.std.specs.Prelude.{not, option_and_then, option_map}
 use Rattle.std.specs.Option.{is_some}
 use Rattle.wiki_model.specs.declared.Readings.{Readings}
@@ -14,7 +14,7 @@ use Rattle.wiki_model.specs.Answers.{Answer}
 use Rattle.wiki_model.specs.Answered.{last_reply}
 use Rattle.wiki_model.specs.Steps.{Step}
 use Rattle.wiki_model.specs.Runs.{Turn, One}
-use Rattle.wiki_model.specs.Sequences.{Makes, GoesOn, ends, is_miss, steps_of_asked}
+use Rattle.wiki_model.specs.Sequences.{Makes, GoesOn, is_miss, steps_of_asked}
 use Rattle.edit_core.specs.declared.edit_ask.EditAsk.{EditAsk}
 use Rattle.edit_core.specs.AsModel.{edit_of}
 use Rattle.region_state.specs.declared.answer.Answer.{Answer as CodeAnswer}
@@ -28,7 +28,7 @@ use Rattle.farm_core.specs.FarmParts.{FarmParts, SameShape}
 use Rattle.farm_steps.specs.RequestMap.{Entries, open_at, kept_at, unless_taken}
 use Rattle.farm_core.specs.RequestLife.{Point, Closed, ArrivedEdit, BegunEdit, ArrivedView, WaitedView, LookedView, SnappedView, point_of, point_at, MovesOn, OpensRequest, BeginsAt, CommitsAt, WaitsAt, LooksFrom, SnapsAt, StoresFrom, Arrives, Begins, Commits, Waits, Looks, Snaps, Stores}
 use Rattle.farm_core.specs.Runs.{Stands, Steps, turn_of}
-use Rattle.wiki_serve.specs.Turns.{TurnsBy, MakesTurns, IsMissed, FitsAsked, MakesAsked, MakesAnswer}
+use Rattle.wiki_serve.specs.Turns.{TurnsBy, IsMissed, FitsAsked, MakesAsked, MakesAnswer}
 use Rattle.wiki_serve.proofs.Steps.{turn, turns_joined, step_runs, shapes}
 
 pub closed_none : (entries : Entries) (id : ℕ) → point_at entries id ≡ Closed → open_at entries id ≡ None

@@ -1,8 +1,7 @@
 -- A batch: what its view needs is what the region knows of its client when it waits. Nothing of that changes between its
 -- arrival and its wait, since both are made at one reading, and the arrival adds only the request.
-use Rattle.std.proofs.Common.{◌≡◌, ℕ, ◌+◌, ◌≤◌, ◌<◌, ◌⊎◌, inl, inr, Bool, true, false, List, [], ◌∷◌, ◌++◌, length, map, Option, Some, None, refl, sym, ap, subst, ◌∙◌, arith, max}
-use Rattle.std.specs.Prelude.{All, IsSome, option_map, Result, Ok, Err, IfOk, OnErr}
-use Rattle.std.proofs.lemmas.List.Elements.{All-nil, All-cons}
+use Rattle.std.proofs.Common.{◌≡◌, ℕ, inl, inr, Bool, true, false, List, [], ◌∷◌, ◌++◌, map, Option, Some, None, refl, sym, ap, subst, ◌∙◌, arith, max}
+use Rattle.std.specs.Prelude.{IsSome, if◌then◌else◌}
 use Rattle.wiki_model.specs.declared.Region.{Region}
 use Rattle.wiki_model.specs.declared.Region.TheVariants.{Home, West}
 use Rattle.wiki_model.specs.declared.Readings.{Readings}
@@ -16,14 +15,13 @@ use Rattle.wiki_model.specs.Sessions.{Lag, known, known_at, lag_of, floor_of}
 use Rattle.wiki_model.specs.Answers as model
 use Rattle.wiki_model.specs.Answers.{Answer}
 use Rattle.wiki_model.specs.Answered.{last_reply, EndsBatch, opened_in}
-use Rattle.wiki_model.specs.Steps.{Step, AtPoint, arrived_view, region_of, request_of, waited, Waits as WaitsIn}
-use Rattle.wiki_model.specs.Runs.{Turn, Reply, One, Many, Leads, with_faults}
-use Rattle.wiki_model.specs.Sequences.{Makes, is_miss}
-use Rattle.wiki_model.specs.Serving.{view_job}
+use Rattle.wiki_model.specs.Steps.{Step, AtPoint, arrived_view, region_of, waited, Waits as WaitsIn}
+use Rattle.wiki_model.specs.Runs.{Turn, Many, with_faults}
+use Rattle.wiki_model.specs.Sequences.{is_miss}
+use Rattle.wiki_model.specs.Serving.{AllMade, Taken, carries, view_job, receipt_job}
 use Rattle.wiki_model.proofs.AnsweredLaws.{asks}
-use Rattle.purge_relay.specs.declared.ledger_row.LedgerRow.{LedgerRow}
+use Rattle.purge_relay.specs.AsModel.{row_message}
 use Rattle.region_state.specs.declared.answer.Answer.{Answer as CodeAnswer}
-use Rattle.region_state.specs.declared.answer.Answer.TheVariants as answers
 use Rattle.region_state.specs.declared.ask.ViewAsk.{ViewAsk}
 use Rattle.region_state.specs.declared.ask.Asked as code
 use Rattle.region_state.specs.declared.ask.Asked.TheVariants as asked
@@ -37,38 +35,17 @@ use Rattle.farm_core.specs.LendCache.{round_turn}
 use Rattle.farm_core.specs.RequestLife.{Point, Closed, ArrivedView, OpensRequest, MovesOn, WaitsAt, ClosesWaited, LeavesRequests, Waits, point_at}
 use Rattle.farm_core.specs.Runs.{Stands, Steps, turn_of}
 use Rattle.region_round.specs.declared.job.Job.{Job as CodeJob}
-use Rattle.region_round.specs.declared.job.Job.TheVariants as job
-use Rattle.region_round.specs.AsModel.{jobs_of, answers_of}
-use Rattle.region_round.specs.Jobs.{IsProper, AreProper}
+use Rattle.region_round.specs.AsModel.{jobs_of}
 use Rattle.wiki_serve.specs.declared.serve_batch.Drawn.{Drawn}
-use Rattle.wiki_serve.specs.Exchanges.{Answered, Listed}
+use Rattle.wiki_serve.specs.Exchanges.{Outcome, Answered, Listed}
 use Rattle.wiki_serve.specs.Turns.{MakesTurns}
-use Rattle.wiki_serve.specs.Housework.{WireSeen, DoesHousework}
-use Rattle.wiki_serve.specs.Batches.{steps_to_round, jobs_in}
-use Rattle.wiki_serve.specs.BatchSteps.{pair_of, job_at, KnowsNeed, EndsEarly, FindsNeed, MakesBatch}
-use Rattle.wiki_serve.proofs.Steps.{turn, step_runs, made_joined}
-use Rattle.wiki_serve.proofs.Asked.{closed_none, opened_said, last_one, chain_one, chain_next, Chain, ArrivesFor, ViewWaits, view_waited, waits_on, waits_at}
-
--- Jobs
-
-pub jobs_are : (need : ℕ) (drawn : List Drawn) → jobs_of (map (job_at need) drawn) ≡ map (view_job need) (map pair_of drawn)
-jobs_are need [] = refl
-jobs_are need (d ∷ drawn) = ap (λ (l : List Job). world.ViewJob d.title need d.word ∷ l) (jobs_are need drawn)
-
--- views are always proper
-pub views_proper : (r : Region) (rows : List LedgerRow) (need : ℕ) (drawn : List Drawn) (jobs : List CodeJob) → jobs ≡ map (job_at need) drawn → AreProper r rows jobs
-views_proper r rows need drawn jobs is = subst (λ (js : List CodeJob). AreProper r rows js) (sym is) (go drawn)
-  where
-    go : (ds : List Drawn) → AreProper r rows (map (job_at need) ds)
-    go [] = All-nil (IsProper r rows)
-    go (d ∷ ds) = All-cons (IsProper r rows) (job_at need d) (map (job_at need) ds) tt (go ds)
-
-pub jobs_long : (need : ℕ) (drawn : List Drawn) (jobs : List CodeJob) → jobs ≡ map (job_at need) drawn → length jobs ≡ length drawn
-jobs_long need drawn jobs is = ap length is ∙ go drawn
-  where
-    go : (ds : List Drawn) → length (map (job_at need) ds) ≡ length ds
-    go [] = refl
-    go (d ∷ ds) = let e = go ds in omega (arith, e)
+use Rattle.wiki_serve.specs.Batches.{jobs_in, IsBatchAnswered, FitsBatch}
+use Rattle.wiki_serve.specs.HoldingBack.{receipts_in, CarriesAll}
+use Rattle.wiki_serve.specs.BatchSteps.{pair_of, job_at, KnowsNeed, EndsEarly, MakesBatch}
+use Rattle.wiki_serve.proofs.Steps.{turn, all_none, step_runs, none_made, made_joined}
+use Rattle.wiki_serve.proofs.Quiet.{quiet_goes, quiet_no_round, last_is_round}
+use Rattle.wiki_serve.proofs.Receiving.{jobs_are, all_jobs_are}
+use Rattle.wiki_serve.proofs.Asked.{closed_none, opened_said, last_one, chain_one, chain_next, Chain, ArrivesFor, ViewWaits, waits_on, waits_at}
 
 -- What a region knows
 
@@ -136,6 +113,7 @@ module _ {K S : Type 0} (content : K → Option (List Entry)) (faults : K → �
           let over = opened_said (Some (answer_of a)) (answer_of a) f0.requests f1.requests 0 ArrivedView refl s1.requests in
           record {
             turns = turn at (Step.Arrive 0 (world.AskedView (view_of ask))) (Some (answer_of a)) ∷ [];
+            quiet = refl;
             made = made_by f0 f1 (turn at (Step.Arrive 0 (world.AskedView (view_of ask))) (Some (answer_of a)) ∷ [])
                 (chain_one content faults cache_of f0 f1 (turn at (Step.Arrive 0 (world.AskedView (view_of ask))) (Some (answer_of a))) (OpensRequest 0 ArrivedView (Some (answer_of a))) s1)
                 (λ none. ap (λ es. open_at es 0) over.1 ∙ none);
@@ -158,6 +136,7 @@ module _ {K S : Type 0} (content : K → Option (List Entry)) (faults : K → �
           let t2 : Turn = turn at (Step.Wait 0 true) (Some (answer_of a)) in
           record {
             turns = t1 ∷ t2 ∷ [];
+            quiet = refl;
             made = made_by f0 f2 (t1 ∷ t2 ∷ [])
                 (chain_next content faults cache_of f0 f1 f2 (t1 ∷ []) t2 (MovesOn 0 ArrivedView (WaitsAt true) (Some (answer_of a)))
                 (chain_one content faults cache_of f0 f1 t1 (OpensRequest 0 ArrivedView None) s1) s2)
@@ -192,6 +171,7 @@ module _ {K S : Type 0} (content : K → Option (List Entry)) (faults : K → �
       let t3 : Turn = turn at (Step.Need 0) None in
       record {
         turns = t1 ∷ t2 ∷ t3 ∷ [];
+        quiet = refl;
         made = made_by f0 f3 (t1 ∷ t2 ∷ t3 ∷ [])
             (chain_next content faults cache_of f0 f2 f3 (t1 ∷ t2 ∷ []) t3 (ClosesWaited 0 told) (waits_on content faults cache_of f0 f1 f2 at ask w) s3)
             (λ free. closed_none f3.requests 0 (s3.requests.closed (waits_at content faults cache_of f0 f1 f2 at ask w)));
@@ -241,43 +221,62 @@ module _ {K S : Type 0} (content : K → Option (List Entry)) (faults : K → �
   cache_there old new Home whole same = (same.whole whole).0
   cache_there old new West whole same = (same.whole whole).1
 
-  rounded : (f0 f3 f4 : FarmParts K S) (at : Readings) (view : world.View) (need : ℕ) (drawn : List Drawn) (jobs : List CodeJob) (r : Region) (said : Option (List Answer)) (outcome : Rattle.wiki_serve.specs.Exchanges.Outcome)
-      → jobs ≡ map (job_at need) drawn → r ≡ region_of view → KnowsNeed content faults cache_of f0 f3 at view need → Steps content faults cache_of f3 f4 (round_turn at r (jobs_of jobs) said) LeavesRequests
-      → ((turns : List Turn) → last_reply (turns ++ round_turn at r (jobs_of jobs) said ∷ []) ≡ Some (Many said) → Rattle.wiki_serve.specs.Batches.IsBatchAnswered view.title (turns ++ round_turn at r (jobs_of jobs) said ∷ []) outcome)
-      → Rattle.wiki_serve.specs.Batches.FitsBatch outcome
-      → MakesBatch content faults cache_of f0 f4 at view (map pair_of drawn) outcome
-  rounded f0 f3 f4 at view need drawn jobs r said outcome jobs_is region knows step answered fits = record {
-    turns = knows.turns ++ round_turn at r (jobs_of jobs) said ∷ [];
-    made = made_joined content faults cache_of f0 f3 f4 knows.turns (round_turn at r (jobs_of jobs) said ∷ []) knows.made (round_made f3 f4 (round_turn at r (jobs_of jobs) said) step);
-    makes = λ start earlier v stood.
-        let asked_for : jobs_of jobs ≡ jobs_in (at_readings at v) view (map pair_of drawn) = ap jobs_of jobs_is ∙ jobs_are need drawn ∙ ap (λ (n : ℕ). map (view_job n) (map pair_of drawn)) (knows.is start earlier v stood) in
-        let step_is : Step.Round r (jobs_of jobs) ≡ Step.Round (region_of view) (jobs_in (at_readings at v) view (map pair_of drawn)) =
+  -- the purges that are held are jobs of the round, and none is left to carry
+  rounded : (f0 f3 f4 : FarmParts K S) (at : Readings) (view : world.View) (need : ℕ) (drawn : List Drawn) (held : List Taken) (views jobs : List CodeJob) (r : Region) (said : Option (List Answer)) (outcome : Outcome)
+      → views ≡ map (job_at need) drawn → jobs ≡ views ++ receipts_in f3.ledger.rows held → r ≡ region_of view → KnowsNeed content faults cache_of f0 f3 at view need
+      → Steps content faults cache_of f3 f4 (round_turn at r (jobs_of jobs) said) LeavesRequests
+      → ((turns : List Turn) → last_reply (turns ++ round_turn at r (jobs_of jobs) said ∷ []) ≡ Some (Many said) → IsBatchAnswered view.title (turns ++ round_turn at r (jobs_of jobs) said ∷ []) outcome)
+      → FitsBatch outcome
+      → MakesBatch content faults cache_of f0 f4 at view (map pair_of drawn) held outcome
+  rounded f0 f3 f4 at view need drawn held views jobs r said outcome views_are jobs_are_all region knows step answered fits = record {
+    own = knows.turns ++ last ∷ [];
+    late = [];
+    made = made_joined content faults cache_of f0 f4 f4 (knows.turns ++ last ∷ []) [] (made_joined content faults cache_of f0 f3 f4 knows.turns (last ∷ []) knows.made (round_made f3 f4 last step)) (none_made content faults cache_of f4);
+    makes = λ start earlier v stood receivable.
+        let (w, stands, goes) = knows.made.runs start earlier v stood in
+        let same : map row_message f3.ledger.rows ≡ v.messages = stands.agrees.messages ∙ quiet_goes knows.turns v w knows.quiet goes in
+        let asked_for : jobs_of jobs ≡ jobs_in (at_readings at v) view (map pair_of drawn) held =
+        all_jobs_are v f3.ledger.rows views jobs (map (view_job need) (map pair_of drawn)) held same receivable (ap jobs_of views_are ∙ jobs_are need drawn) jobs_are_all
+        ∙ ap (λ (n : ℕ). map (view_job n) (map pair_of drawn) ++ map receipt_job held) (knows.is start earlier v stood) in
+        let step_is : Step.Round r (jobs_of jobs) ≡ Step.Round (region_of view) (jobs_in (at_readings at v) view (map pair_of drawn) held) =
         ap (λ (q : Region). Step.Round q (jobs_of jobs)) region ∙ ap (λ (js : List Job). Step.Round (region_of view) js) asked_for in
-        knows.then_round (jobs_in (at_readings at v) view (map pair_of drawn)) (round_turn at r (jobs_of jobs) said ∷ []) (refl, step_is, refl);
+        knows.then_round (jobs_in (at_readings at v) view (map pair_of drawn) held) (last ∷ []) (refl, step_is, refl);
+    carried_late = subst (λ (b : Bool). AllMade at (carries (if b then [] else held)) []) (sym (last_is_round knows.turns last refl)) (all_none at);
     answered = answered knows.turns (last_is knows.turns);
     fits = fits;
   }
     where
+      last : Turn
+      last = round_turn at r (jobs_of jobs) said
+
       last_is : (turns : List Turn) → last_reply (turns ++ round_turn at r (jobs_of jobs) said ∷ []) ≡ Some (Many said)
       last_is [] = refl
       last_is (x ∷ []) = refl
       last_is (x ∷ y ∷ turns) = last_is (y ∷ turns)
 
-  pub batch_listed : (f0 f3 f4 : FarmParts K S) (at : Readings) (view : world.View) (need : ℕ) (drawn : List Drawn) (jobs : List CodeJob) (r : Region) (said : List Answer)
-      → jobs ≡ map (job_at need) drawn → r ≡ region_of view → KnowsNeed content faults cache_of f0 f3 at view need → Steps content faults cache_of f3 f4 (round_turn at r (jobs_of jobs) (Some said)) LeavesRequests
-      → MakesBatch content faults cache_of f0 f4 at view (map pair_of drawn) (Listed said)
-  batch_listed f0 f3 f4 at view need drawn jobs r said jobs_is region knows step = rounded f0 f3 f4 at view need drawn jobs r (Some said) (Listed said) jobs_is region knows step (λ turns last. inr (inl (said, last, refl))) tt
+  pub batch_listed : (f0 f3 f4 : FarmParts K S) (at : Readings) (view : world.View) (need : ℕ) (drawn : List Drawn) (held : List Taken) (views jobs : List CodeJob) (r : Region) (said : List Answer)
+      → views ≡ map (job_at need) drawn → jobs ≡ views ++ receipts_in f3.ledger.rows held → r ≡ region_of view → KnowsNeed content faults cache_of f0 f3 at view need
+      → Steps content faults cache_of f3 f4 (round_turn at r (jobs_of jobs) (Some said)) LeavesRequests
+      → MakesBatch content faults cache_of f0 f4 at view (map pair_of drawn) held (Listed said)
+  batch_listed f0 f3 f4 at view need drawn held views jobs r said views_are jobs_are_all region knows step =
+      rounded f0 f3 f4 at view need drawn held views jobs r (Some said) (Listed said) views_are jobs_are_all region knows step (λ turns last. inr (inl (said, last, refl))) tt
 
-  pub batch_lost : (f0 f3 f4 : FarmParts K S) (at : Readings) (view : world.View) (need : ℕ) (drawn : List Drawn) (jobs : List CodeJob) (r : Region)
-      → jobs ≡ map (job_at need) drawn → r ≡ region_of view → KnowsNeed content faults cache_of f0 f3 at view need → Steps content faults cache_of f3 f4 (round_turn at r (jobs_of jobs) None) LeavesRequests
-      → MakesBatch content faults cache_of f0 f4 at view (map pair_of drawn) (Answered view.title model.NoMemory)
-  batch_lost f0 f3 f4 at view need drawn jobs r jobs_is region knows step = rounded f0 f3 f4 at view need drawn jobs r None (Answered view.title model.NoMemory) jobs_is region knows step (λ turns last. inr (inr (last, refl))) tt
+  pub batch_lost : (f0 f3 f4 : FarmParts K S) (at : Readings) (view : world.View) (need : ℕ) (drawn : List Drawn) (held : List Taken) (views jobs : List CodeJob) (r : Region)
+      → views ≡ map (job_at need) drawn → jobs ≡ views ++ receipts_in f3.ledger.rows held → r ≡ region_of view → KnowsNeed content faults cache_of f0 f3 at view need
+      → Steps content faults cache_of f3 f4 (round_turn at r (jobs_of jobs) None) LeavesRequests
+      → MakesBatch content faults cache_of f0 f4 at view (map pair_of drawn) held (Answered view.title model.NoMemory)
+  batch_lost f0 f3 f4 at view need drawn held views jobs r views_are jobs_are_all region knows step =
+      rounded f0 f3 f4 at view need drawn held views jobs r None (Answered view.title model.NoMemory) views_are jobs_are_all region knows step (λ turns last. inr (inr (last, refl))) tt
 
-  pub batch_ended : (f0 f3 : FarmParts K S) (at : Readings) (view : world.View) (drawn : List (Title × ℕ)) (a : Answer) → EndsEarly content faults cache_of f0 f3 at view a → MakesBatch content faults cache_of f0 f3 at view drawn (Answered view.title a)
-  batch_ended f0 f3 at view drawn a early = record {
-    turns = early.turns;
-    made = early.made;
-    makes = λ start earlier v stood. early.makes (jobs_in (at_readings at v) view drawn);
+  -- the view ended before its round, and the purges that are held were carried
+  pub batch_ended : (f0 f3 f4 : FarmParts K S) (at : Readings) (view : world.View) (drawn : List (Title × ℕ)) (held : List Taken) (a : Answer) → EndsEarly content faults cache_of f0 f3 at view a → CarriesAll content faults cache_of f3 f4 at held
+      → MakesBatch content faults cache_of f0 f4 at view drawn held (Answered view.title a)
+  batch_ended f0 f3 f4 at view drawn held a early carrying = record {
+    own = early.turns;
+    late = carrying.turns;
+    made = made_joined content faults cache_of f0 f3 f4 early.turns carrying.turns early.made carrying.made;
+    makes = λ start earlier v stood receivable. early.makes (jobs_in (at_readings at v) view drawn held);
+    carried_late = subst (λ (b : Bool). AllMade at (carries (if b then [] else held)) carrying.turns) (sym (quiet_no_round early.turns early.quiet)) carrying.are;
     answered = inl (a, early.last, refl);
     fits = early.fits;
   }

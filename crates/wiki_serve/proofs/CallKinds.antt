@@ -1,6 +1,7 @@
 -- Each kind of call: a page, an edit, and a batch.
-use Rattle.std.proofs.Common.{◌≡◌, ℕ, ◌+◌, ◌≤◌, arith, Bool, List, [], ◌∷◌, ◌++◌, map, Option, Some, None, refl, sym, ap, subst, ◌∙◌}
-use Rattle.std.specs.Prelude.{option_map}
+use Rattle.std.proofs.Common.{◌≡◌, ℕ, ◌≤◌, arith, Bool, List, [], ◌∷◌, ◌++◌, length, map, Option, Some, None, refl, sym, ap, subst, ◌∙◌, append_assoc}
+use Rattle.std.specs.Prelude.{All, option_map}
+use Rattle.std.proofs.lemmas.List.Elements.{All-nil, All-cons, All-head, All-tail}
 use Rattle.wiki_model.specs.declared.Readings.{Readings}
 use Rattle.wiki_model.specs.Bytes.{Bytes, first_of_list}
 use Rattle.wiki_model.specs.declared.Region.{Region}
@@ -12,10 +13,12 @@ use Rattle.wiki_model.specs.World.{World, Asked, View, Cookie, at_readings}
 use Rattle.wiki_model.specs.World.Asked.{AskedView, AskedEdit}
 use Rattle.wiki_model.specs.Answers as model
 use Rattle.wiki_model.specs.Answers.{Answer}
-use Rattle.wiki_model.specs.Answered.{last_reply, EndsBatch}
-use Rattle.wiki_model.specs.Runs.Reply.{One}
+use Rattle.wiki_model.specs.Answered.{EndsBatch}
 use Rattle.wiki_model.specs.Sequences.{Makes}
-use Rattle.wiki_model.specs.Serving.{ServesOne}
+use Rattle.wiki_model.specs.Steps as steps
+use Rattle.wiki_model.specs.Runs.{Turn}
+use Rattle.wiki_model.specs.Serving.{GoesBy, Taken, IsReceivable, Splits, ServesOne, room_beside}
+use Rattle.purge_relay.specs.declared.message.Message.{Message}
 use Rattle.wiki_model.specs.Asking.{Request, Call, PageCall, EditCall, BatchCall, FeedCall, MessagesCall}
 use Rattle.farm_base.specs.Series.{Series, Gives}
 use Rattle.region_state.specs.declared.answer.Answer.{Answer as CodeAnswer}
@@ -30,8 +33,7 @@ use Rattle.wiki_serve.specs.declared.serve_batch.Said.TheVariants as said
 use Rattle.farm_steps.specs.Moments.{moment_of, moments_at}
 use Rattle.farm_core.specs.FarmParts.{FarmParts, SameShape}
 use Rattle.farm_steps.specs.RequestMap.{open_at}
-use Rattle.farm_core.specs.Agreement.{Agrees}
-use Rattle.wiki_serve.specs.Exchanges.{Outcome, Answered, Listed, Service}
+use Rattle.wiki_serve.specs.Exchanges.{Outcome, Answered, Listed}
 use Rattle.wiki_serve.specs.Replies.{location_of, answer_reply}
 use Rattle.wiki_serve.specs.Callers.{Desk, region_of, moment_for, view_for, edit_for, live_cookie, client_of_cookie, client_for, stranger_of, view_by}
 use Rattle.wiki_serve.specs.Services.{DoesCall}
@@ -40,7 +42,11 @@ use Rattle.wiki_serve.specs.Housework.{WireSeen, DoesHousework, ServesAsked}
 use Rattle.wiki_serve.specs.Batches.{steps_to_round, jobs_in}
 use Rattle.wiki_serve.specs.BatchSteps.{title_of, word_of, pair_of, IsRoomFor, HasRoomFor, IsDrawn, said_outcome, ServesBatch}
 use Rattle.wiki_serve.specs.Reactions.{outside_seen, IsAnswerTo, IsLocationFor, CalledFor, DoesCallFor}
+use Rattle.wiki_serve.specs.HoldingBack.{all_taken}
 use Rattle.wiki_serve.proofs.Steps.{shapes}
+use Rattle.wiki_serve.proofs.Quiet.{quiet_house}
+use Rattle.wiki_serve.proofs.Receivable.{receivable_there}
+use Rattle.wiki_serve.proofs.Holding.{held_receivable, none_fits}
 use Rattle.wiki_serve.proofs.Calling.{service_with, moment_is, called_for, asked_called}
 
 page_answer : (view : View) (title : Title) (a : Answer) → FitsAsked (AskedView view) a → IsAnswerTo (PageCall title) title a
@@ -84,6 +90,17 @@ first_drawn (d ∷ drawn) titles title word are first_title first_word =
     let t : d.title ≡ title = cc in
     let n : d.word ≡ word = cc in
     ap (λ (x : Title). Some (x, d.word)) t ∙ ap (λ (x : ℕ). Some (title, x)) n
+
+-- turns that were made one after another
+goes_apart : (xs ys : List Turn) (v w : World) → GoesBy v (xs ++ ys) w → (u : World) × GoesBy v xs u × GoesBy u ys w
+goes_apart [] ys v w goes = (v, refl, goes)
+goes_apart (x ∷ xs) ys v w (next, one, others) = let (u, first, rest) = goes_apart xs ys next w others in (u, (next, one, first), rest)
+
+-- what was receivable before the housekeeping still is
+all_there : (v w : World) (held : List Taken) → w.messages ≡ v.messages → All (IsReceivable v) held → All (IsReceivable w) held
+all_there v w [] same all = All-nil (IsReceivable w)
+all_there v w (t ∷ held) same all =
+    All-cons (IsReceivable w) t held (receivable_there v w t same (All-head (IsReceivable v) t held all)) (all_there v w held same (All-tail (IsReceivable v) t held all))
 
 -- the view of a request, and its edit, as they are put together
 
@@ -163,10 +180,12 @@ module _ {K S : Type 0} (content : K → Option (List Entry)) (faults : K → �
       called outcome done =
           let work = done.housework in
           let own = done.own in
-          called_for content faults cache_of desk old done.middle new sent_old sent_new at lots lots_now before now request (map word_of drawn) own.turns outcome pace is.words work own.made
-          (λ start earlier v m w agrees kept middle goes.
+          called_for content faults cache_of desk old done.middle new sent_old sent_new at lots lots_now before now request (map word_of drawn) (own.own ++ own.late) outcome (room_beside (steps.region_of (view_for desk (moment_of (region_of request) (moments_at at old.moments)) request word first)) (length (map pair_of drawn))) done.held pace is.words work own.made
+          (λ start earlier v m w agrees splits kept middle goes.
           let same = moment_is content faults cache_of old v at request agrees in
-          subst (λ (c : Call). DoesCall desk request c (service_with at (map word_of drawn) work.sent work.halted work.taken work.emptied (work.turns ++ own.turns) outcome) v w) (sym call_is)
+          let (after, goes_own, goes_late) = goes_apart own.own own.late m w goes in
+          let receivable = held_receivable v (room_beside (steps.region_of (view_for desk (moment_of (region_of request) (moments_at at old.moments)) request word first)) (length (map pair_of drawn))) work.taken work.at_once done.held splits in
+          subst (λ (c : Call). DoesCall desk request c (service_with at (map word_of drawn) work.sent work.halted work.taken work.emptied (work.turns ++ (own.own ++ own.late)) outcome) v w) (sym call_is)
           (record {
             drawn = map pair_of drawn;
             title = first;
@@ -174,14 +193,22 @@ module _ {K S : Type 0} (content : K → Option (List Entry)) (faults : K → �
             titles_are = titles_drawn drawn ∙ is.titles_are;
             words_are = sym (words_drawn drawn);
             serves = record {
+              carried = work.at_once;
+              held = done.held;
               before = work.turns;
-              own = own.turns;
+              own = own.own;
+              late = own.late;
               middle = m;
+              after = after;
               first = first_drawn drawn titles first word is.titles_are first_is word_is;
+              split = subst (λ (k : ℕ). Splits v (room_beside (steps.region_of (view_for desk k request word first)) (length (map pair_of drawn))) work.taken work.at_once done.held) same splits;
               housekeeping = kept;
-              makes = subst (λ (k : ℕ). Makes at (steps_to_round (view_for desk k request word first) (jobs_in (at_readings at m) (view_for desk k request word first) (map pair_of drawn))) own.turns) same (own.makes start earlier m middle);
-              goes = goes;
-              all = refl;
+              makes = subst (λ (k : ℕ). Makes at (steps_to_round (view_for desk k request word first) (jobs_in (at_readings at m) (view_for desk k request word first) (map pair_of drawn) done.held)) own.own) same
+                  (own.makes start earlier m middle (all_there v m done.held (quiet_house at desk.pace work.at_once v work.turns m kept) receivable));
+              goes = goes_own;
+              carried_late = own.carried_late;
+              goes_on = goes_late;
+              all = sym (append_assoc work.turns own.own own.late);
             };
             answered = own.answered;
           }))
@@ -211,8 +238,15 @@ module _ {K S : Type 0} (content : K → Option (List Entry)) (faults : K → �
   pub batch_counts : (old new : FarmParts K S) (sent_old sent_new : ℕ) (at : Readings) (before now : WireSeen) (view : View) (drawn : List (Title × ℕ)) (outcome : Outcome) → ServesBatch content faults cache_of old new sent_old sent_new at before now view drawn outcome → faults old.keeper ≤ faults new.keeper
   batch_counts old new sent_old sent_new at before now view drawn outcome serves = let x = serves.housework.counts in let y = serves.own.made.counts in omega (arith, x, y)
 
-  -- a request after its housekeeping
-  pub serves_after : (old mid new : FarmParts K S) (sent_old sent_new : ℕ) (at : Readings) (before now : WireSeen) (asked : Asked) (result : Option CodeAnswer) (a : CodeAnswer) → result ≡ Some a → DoesHousework content faults cache_of old mid sent_old sent_new at before now
+  -- a request after its housekeeping, for which nothing was held
+  pub serves_after : (old mid new : FarmParts K S) (sent_old sent_new : ℕ) (at : Readings) (before now : WireSeen) (asked : Asked) (room : ℕ) (messages : List Message) (result : Option CodeAnswer) (a : CodeAnswer) → result ≡ Some a → room ≡ 0 → length messages ≤ room
+      → DoesHousework content faults cache_of old mid sent_old sent_new at before now room (all_taken messages)
       → MakesAnswer content faults cache_of mid new at asked (option_map answer_of result) → ServesAsked content faults cache_of old new sent_old sent_new at before now asked (answer_of a)
-  serves_after old mid new sent_old sent_new at before now asked result a is work made =
-      record { middle = mid; housework = work; own = subst (λ (r : Option CodeAnswer). MakesAnswer content faults cache_of mid new at asked (option_map answer_of r)) is made }
+  serves_after old mid new sent_old sent_new at before now asked room messages result a is none few work made =
+      record {
+        middle = mid;
+        housework =
+            subst (λ (h : List Taken). DoesHousework content faults cache_of old mid sent_old sent_new at before now 0 h) (none_fits messages (subst (λ (n : ℕ). length messages ≤ n) none few))
+            (subst (λ (n : ℕ). DoesHousework content faults cache_of old mid sent_old sent_new at before now n (all_taken messages)) none work);
+        own = subst (λ (r : Option CodeAnswer). MakesAnswer content faults cache_of mid new at asked (option_map answer_of r)) is made;
+      }

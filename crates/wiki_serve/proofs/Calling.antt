@@ -1,12 +1,12 @@
 -- A request that is served: its housekeeping and its own steps are what the definitions ask of it, for each run for which the farm stood.
 -- The messages that were not sent are those after the last one that was, and the steps only add more.
-use Rattle.std.proofs.Common.{◌≡◌, ℕ, zero, suc, ◌+◌, ◌-◌, ◌≤◌, ◌<◌, Bool, true, false, List, [], ◌∷◌, ◌++◌, length, map, Option, Some, None, refl, sym, ap, subst, ◌∙◌, arith, append_assoc, append-nil, reverse}
+use Rattle.std.proofs.Common.{◌≡◌, ℕ, zero, suc, ◌+◌, ◌-◌, ◌≤◌, ◌<◌, Bool, true, false, List, [], ◌∷◌, ◌++◌, length, map, Option, Some, refl, sym, ap, subst, ◌∙◌, arith, append_assoc, reverse}
 use Rattle.std.specs.Prelude.{option_map, slice_get}
 use Rattle.std.proofs.lemmas.List.{reverse-append, length-map}
 use Rattle.wiki_model.specs.declared.Region.{Region}
 use Rattle.wiki_model.specs.declared.Region.TheVariants.{Home, West}
 use Rattle.wiki_model.specs.declared.Readings.{Readings}
-use Rattle.wiki_model.specs.Bytes.{Bytes, last_of}
+use Rattle.wiki_model.specs.Bytes.{Bytes}
 use Rattle.wiki_model.specs.Titles.{Title}
 use Rattle.wiki_model.specs.History.{Entry}
 use Rattle.wiki_model.specs.Cache.{CacheMap}
@@ -16,25 +16,26 @@ use Rattle.wiki_model.specs.Answers.{Answer}
 use Rattle.wiki_model.specs.Answered.{last_reply}
 use Rattle.wiki_model.specs.Runs.{Turn, Reply}
 use Rattle.wiki_model.specs.Runs.Reply.{One}
-use Rattle.wiki_model.specs.Serving.{GoesBy, Taken, Housekeeps, ServesOne}
-use Rattle.wiki_model.specs.Asking.{Request, Call}
+use Rattle.wiki_model.specs.Serving.{GoesBy, Taken, Splits, Housekeeps, ServesOne}
+use Rattle.wiki_model.specs.Asking.{Request}
 use Rattle.wiki_model.proofs.MessageLaws.{goes-issue}
 use Rattle.farm_base.specs.Series.{Series}
 use Rattle.purge_relay.specs.AsModel.{row_message, body_of}
 use Rattle.purge_relay.specs.Ledger.{row_at}
 use Rattle.purge_relay.specs.declared.ledger_row.LedgerRow.{LedgerRow}
 use Rattle.farm_steps.specs.Moments.{moment_of, moments_at}
-use Rattle.farm_core.specs.FarmParts.{FarmParts, SameShape}
+use Rattle.farm_core.specs.FarmParts.{FarmParts}
 use Rattle.farm_core.specs.Agreement.{Agrees}
 use Rattle.farm_core.specs.Runs.{Stands}
-use Rattle.wiki_serve.specs.Exchanges.{Outcome, Answered, Service, GivesAll, with_messages}
+use Rattle.wiki_serve.specs.Exchanges.{Outcome, Answered, Service, GivesAll}
 use Rattle.wiki_serve.specs.Callers.{Desk, region_of, moment_for}
-use Rattle.wiki_serve.specs.Services.{Held, numbers_from, issued, IsMessage, AreMessages, Sends, DoesCall, DoesOne}
+use Rattle.wiki_serve.specs.Services.{numbers_from, AreMessages, DoesCall, DoesOne}
 use Rattle.wiki_serve.specs.Turns.{MakesTurns, StandsSent, unsent_of}
-use Rattle.wiki_serve.specs.Housework.{WireSeen, IsRow, AreRows, DoesHousework, ServesAsked}
-use Rattle.wiki_serve.specs.Reactions.{OutsideSeen, CalledFor}
+use Rattle.wiki_serve.specs.Housework.{WireSeen, AreRows, DoesHousework, ServesAsked}
+use Rattle.wiki_serve.specs.Reactions.{CalledFor}
 use Rattle.wiki_serve.proofs.OneMore.{numbers_more}
 use Rattle.wiki_serve.proofs.Steps.{shapes}
+use Rattle.wiki_serve.proofs.Holding.{splits_none}
 
 -- what was done, by its parts
 abbrev pub service_with : (at : Readings) (words : List ℕ) (sent : List Taken) (halted : Bool) (taken : List Taken) (emptied : Bool) (turns : List Turn) → Outcome → Service
@@ -130,12 +131,12 @@ module _ {K S : Type 0} (content : K → Option (List Entry)) (faults : K → �
       numbers_long k (suc c) = ap suc (numbers_long (k + 1) c)
 
   -- a call with its housekeeping and its own turns
-  pub called_for : (desk : Desk) (old mid new : FarmParts K S) (sent_old sent_new : ℕ) (at : Readings) (lots lots_now : Option (Series ℕ)) (before now : WireSeen) (request : Request) (words : List ℕ) (own : List Turn) (outcome : Outcome)
-      → desk.pace ≡ old.plan.pace → GivesAll lots words lots_now → (work : DoesHousework content faults cache_of old mid sent_old sent_new at before now) → MakesTurns content faults cache_of mid new own
-      → ((start : World) (earlier : List Turn) (v m w : World) → Agrees content faults cache_of old v → Housekeeps at desk.pace work.taken v work.turns m → Stands content faults cache_of mid start earlier m → GoesBy m own w
+  pub called_for : (desk : Desk) (old mid new : FarmParts K S) (sent_old sent_new : ℕ) (at : Readings) (lots lots_now : Option (Series ℕ)) (before now : WireSeen) (request : Request) (words : List ℕ) (own : List Turn) (outcome : Outcome) (room : ℕ) (held : List Taken)
+      → desk.pace ≡ old.plan.pace → GivesAll lots words lots_now → (work : DoesHousework content faults cache_of old mid sent_old sent_new at before now room held) → MakesTurns content faults cache_of mid new own
+      → ((start : World) (earlier : List Turn) (v m w : World) → Agrees content faults cache_of old v → Splits v room work.taken work.at_once held → Housekeeps at desk.pace work.at_once v work.turns m → Stands content faults cache_of mid start earlier m → GoesBy m own w
       → DoesCall desk request request.call (service_with at words work.sent work.halted work.taken work.emptied (work.turns ++ own) outcome) v w)
       → CalledFor content faults cache_of desk old new sent_old sent_new at (record { lots = lots; wire = before.carried; refused = before.refused; empty = before.empty }) (record { lots = lots_now; wire = now.carried; refused = now.refused; empty = now.empty }) request outcome
-  called_for desk old mid new sent_old sent_new at lots lots_now before now request words own outcome pace gives work made does = record {
+  called_for desk old mid new sent_old sent_new at lots lots_now before now request words own outcome room held pace gives work made does = record {
     service = service_with at words work.sent work.halted work.taken work.emptied (work.turns ++ own) outcome;
     outcome_is = refl;
     at_is = refl;
@@ -156,17 +157,17 @@ module _ {K S : Type 0} (content : K → Option (List Entry)) (faults : K → �
           let (m, middle, keeps) = work.keeps start turns v stood.stands in
           let (w, stands, goes) = made.runs start (reverse work.turns ++ turns) m middle in
           let order : reverse own ++ (reverse work.turns ++ turns) ≡ reverse (work.turns ++ own) ++ turns = sym (ap (λ l. l ++ turns) (reverse-append work.turns own) ∙ append_assoc (reverse own) (reverse work.turns) turns) in
-          let one = goes_house at old.plan.pace work.taken v work.turns m keeps in
+          let one = goes_house at old.plan.pace work.at_once v work.turns m keeps in
           let two = goes-issue own m w goes in
           let grow : length v.messages ≤ length w.messages = omega (arith, one, two) in
           let long = rows_long old v stood.stands.agrees in
           let within = stood.within in
           let inside = work.within (omega (arith, long, within)) in
-          let kept = subst (λ (p : ℕ). Housekeeps at p work.taken v work.turns m) (sym pace) keeps in (
+          let kept = subst (λ (p : ℕ). Housekeeps at p work.at_once v work.turns m) (sym pace) keeps in (
             w,
             record { stands = subst (λ (l : List Turn). Stands content faults cache_of new start l w) order stands; within = omega (arith, inside, long, grow) },
             one_done desk old new sent_old sent_new request (service_with at words work.sent work.halted work.taken work.emptied (work.turns ++ own) outcome) v w work.later work.within work.are work.all work.left work.few work.full within stood.stands.agrees stands.agrees grow
-                (does start (reverse work.turns ++ turns) v m w stood.stands.agrees kept middle goes),
+                (does start (reverse work.turns ++ turns) v m w stood.stands.agrees (work.splits start turns v stood.stands) kept middle goes),
           )
 
   -- a page or an edit
@@ -178,8 +179,8 @@ module _ {K S : Type 0} (content : K → Option (List Entry)) (faults : K → �
   asked_called desk old new sent_old sent_new at lots lots_now before now request words asked title answer pace gives serves does =
       let work = serves.housework in
       let own = serves.own in
-      called_for desk old serves.middle new sent_old sent_new at lots lots_now before now request words own.turns (Answered title answer) pace gives work own.made
-      (λ start earlier v m w agrees kept middle goes.
+      called_for desk old serves.middle new sent_old sent_new at lots lots_now before now request words own.turns (Answered title answer) 0 [] pace gives work own.made
+      (λ start earlier v m w agrees splits kept middle goes.
       does (service_with at words work.sent work.halted work.taken work.emptied (work.turns ++ own.turns) (Answered title answer)) v w refl refl agrees
-      (record { before = work.turns; own = own.turns; middle = m; housekeeping = kept; makes = own.makes; goes = goes; all = refl })
+      (record { before = work.turns; own = own.turns; middle = m; housekeeping = subst (λ (l : List Taken). Housekeeps at desk.pace l v work.turns m) (splits_none v work.taken work.at_once [] splits) kept; makes = own.makes; goes = goes; all = refl })
       (last_after work.turns own.turns (One (Some answer)) own.last) refl)

@@ -1,33 +1,32 @@
 -- The housekeeping of a request: its parts follow each other, and together they are what the definitions ask for.
-use Rattle.std.proofs.Common.{◌≡◌, ℕ, zero, suc, ◌+◌, ◌-◌, ◌≤◌, ◌<◌, Bool, true, false, List, [], ◌∷◌, ◌++◌, length, map, Option, Some, None, refl, sym, ap, subst, ◌∙◌, arith, append_assoc, append-nil, reverse, drop, max, min}
-use Rattle.std.specs.Prelude.{option_map, nat_le}
-use Rattle.std.proofs.lemmas.List.{map-append, length-append, length-map, reverse-append}
+use Rattle.std.proofs.Common.{◌≡◌, ℕ, zero, suc, ◌+◌, ◌-◌, ◌≤◌, ◌<◌, Bool, true, false, List, [], ◌∷◌, ◌++◌, length, Option, Some, None, refl, sym, ap, subst, ◌∙◌, arith, append_assoc, append-nil, reverse, drop, max}
+use Rattle.std.specs.Prelude.{option_map}
+use Rattle.std.proofs.lemmas.List.{length-map, reverse-append}
 use Rattle.wiki_model.specs.declared.Region.{Region}
 use Rattle.wiki_model.specs.declared.Region.TheVariants.{Home, West}
 use Rattle.wiki_model.specs.declared.Readings.{Readings}
 use Rattle.wiki_model.specs.Bytes.{Bytes, last_of}
-use Rattle.wiki_model.specs.Limits.{messages_max}
 use Rattle.wiki_model.specs.History.{Entry, Beat, Committed}
 use Rattle.wiki_model.specs.Cache.{CacheMap}
 use Rattle.wiki_model.specs.World.{World, cut}
 use Rattle.wiki_model.specs.Steps.{Step}
 use Rattle.wiki_model.specs.Runs.{Turn}
-use Rattle.wiki_model.specs.Serving.{GoesBy, AllMade, Taken, carries, is_due, is_past, beats, beat_if, applies, applies_from, Housekeeps}
+use Rattle.wiki_model.specs.Serving.{AllMade, Taken, is_due, is_past, beats, beat_if, applies, applies_from}
 use Rattle.farm_base.specs.Causes.{counted}
 use Rattle.purge_relay.specs.Carried.{Carried, with_sent}
 use Rattle.purge_relay.specs.AsModel.{body_of, message_of, maybe_taken}
 use Rattle.purge_relay.specs.declared.message.Message.{Message}
 use Rattle.purge_relay.specs.declared.ledger_row.LedgerRow.{LedgerRow}
 use Rattle.farm_steps.specs.ViewSteps.{region_at}
-use Rattle.farm_steps.specs.RequestMap.{open_at}
 use Rattle.replica_apply.specs.Replica.{ReplicaState}
 use Rattle.farm_core.specs.FarmParts.{FarmParts, SameShape}
 use Rattle.farm_core.specs.Agreement.{Agrees, last_beat_in}
 use Rattle.farm_core.specs.Runs.{Stands}
-use Rattle.wiki_serve.specs.Exchanges.{with_messages, as_message}
+use Rattle.wiki_serve.specs.Exchanges.{with_messages}
 use Rattle.wiki_serve.specs.Services.{numbers_from}
 use Rattle.wiki_serve.specs.Turns.{MakesTurns, MakesStep}
-use Rattle.wiki_serve.specs.Housework.{WireSeen, taken_of, counted_if, IsRow, AreRows, SendsTo, IsSending, SendsAll, TakesSome, IsTaking, TakesAll, BeatsIfDue, applies_to, AppliesTo, KeepsHouse, DoesHousework}
+use Rattle.wiki_serve.specs.HoldingBack.{taken_of}
+use Rattle.wiki_serve.specs.Housework.{WireSeen, counted_if, IsRow, AreRows, IsSending, SendsAll, TakesAll, BeatsIfDue, applies_to, AppliesTo, KeepsHouse, DoesHousework}
 use Rattle.wiki_serve.proofs.OneMore.{carried_more, numbers_more}
 use Rattle.wiki_serve.proofs.Steps.{turn, all_none, all_one, all_joined, none_made, made_joined, shapes}
 
@@ -39,7 +38,7 @@ rows_more rows [] (x ∷ sent) n t all one = absurd all
 rows_more rows (m ∷ numbers) [] n t all one = absurd all
 rows_more rows (m ∷ numbers) (x ∷ sent) n t (first, all) one = (first, rows_more rows numbers sent n t all one)
 
-same_wire : (wire : Option Carried) → wire ≡ option_map (with_messages [] []) wire
+pub same_wire : (wire : Option Carried) → wire ≡ option_map (with_messages [] []) wire
 same_wire None = refl
 same_wire (Some c) = ap (λ l. Some (let d : Carried = record { sent = l; taken = c.taken } in d)) (sym (append-nil c.sent)) ∙ ap (λ l. Some (let d : Carried = record { sent = c.sent ++ []; taken = l } in d)) (sym (append-nil c.taken))
 
@@ -194,71 +193,6 @@ module _ {K S : Type 0} (content : K → Option (List Entry)) (faults : K → �
     is = λ w a. due_is farm w at a ∙ sym is ∙ not_due;
   }
 
-  -- Taking
-
-  pub takes_none : (farm : FarmParts K S) (at : Readings) (wire : WireSeen) → IsTaking content faults cache_of farm farm at wire wire 0
-  takes_none farm at wire = record {
-    taken = [];
-    takes = record {
-      turns = [];
-      made = none_made content faults cache_of farm;
-      are = all_none at;
-      carried = same_wire wire.carried;
-      refused = refl;
-      empty = refl;
-    };
-    number = refl;
-  }
-
-  pub takes_more : (first old new : FarmParts K S) (at : Readings) (before mid now : WireSeen) (count : ℕ) (t : Taken) → IsTaking content faults cache_of first old at before mid count
-      → now.carried ≡ option_map (with_messages [] (t ∷ [])) mid.carried → now.refused ≡ mid.refused → now.empty ≡ mid.empty
-      → MakesStep content faults cache_of old new at (Step.Carry t.number (Some t.body)) → IsTaking content faults cache_of first new at before now (count + 1)
-  takes_more first old new at before mid now count t is carried refused empty step =
-      let long = length-append is.taken (t ∷ []) in
-      let number = is.number in
-      record {
-        taken = is.taken ++ t ∷ [];
-        takes = record {
-          turns = is.takes.turns ++ turn at (Step.Carry t.number (Some t.body)) step.said ∷ [];
-          made = made_joined content faults cache_of first old new is.takes.turns (turn at (Step.Carry t.number (Some t.body)) step.said ∷ []) is.takes.made step.made;
-          are = subst (λ ss. AllMade at ss (is.takes.turns ++ turn at (Step.Carry t.number (Some t.body)) step.said ∷ [])) (sym (map-append (λ (m : Taken). Step.Carry m.number (Some m.body)) is.taken (t ∷ [])))
-              (all_joined at (carries is.taken) (Step.Carry t.number (Some t.body) ∷ []) is.takes.turns (turn at (Step.Carry t.number (Some t.body)) step.said ∷ []) is.takes.are (all_one at (Step.Carry t.number (Some t.body)) step.said));
-          carried = carried ∙ ap (option_map (with_messages [] (t ∷ []))) is.takes.carried ∙ carried_more [] [] is.taken (t ∷ []) before.carried;
-          refused = refused ∙ is.takes.refused;
-          empty = empty ∙ is.takes.empty;
-        };
-        number = omega (arith, long, number);
-      }
-
-  pub takes_over : (first now : FarmParts K S) (at : Readings) (before mid after : WireSeen) (count : ℕ) → IsTaking content faults cache_of first now at before mid count → count < messages_max
-      → after.carried ≡ mid.carried → after.refused ≡ mid.refused → after.empty ≡ counted mid.empty → TakesAll content faults cache_of first now at before after
-  takes_over first now at before mid after count is less carried refused empty =
-      let number = is.number in
-      record {
-        taken = is.taken;
-        emptied = true;
-        takes = record {
-          turns = is.takes.turns;
-          made = is.takes.made;
-          are = is.takes.are;
-          carried = carried ∙ is.takes.carried;
-          refused = refused ∙ is.takes.refused;
-          empty = empty ∙ ap counted is.takes.empty;
-        };
-        few = λ e. omega (arith, number, less);
-        full = λ e. let no : ⊥ = cc in absurd no;
-      }
-
-  pub takes_enough : (first now : FarmParts K S) (at : Readings) (before after : WireSeen) (count : ℕ) → IsTaking content faults cache_of first now at before after count → count ≡ messages_max
-      → TakesAll content faults cache_of first now at before after
-  takes_enough first now at before after count is full = record {
-    taken = is.taken;
-    emptied = false;
-    takes = is.takes;
-    few = λ e. let no : ⊥ = cc in absurd no;
-    full = λ e. is.number ∙ full;
-  }
-
   -- Applying
 
   pub applies_none : (farm : FarmParts K S) (at : Readings) (r : Region) (pace : ℕ) → AppliesTo content faults cache_of farm farm at r pace 0
@@ -291,15 +225,17 @@ module _ {K S : Type 0} (content : K → Option (List Entry)) (faults : K → �
       ap (λ l. l ++ applies_from West pace 0 w.west.applied) (applies_is Home pace 0 w.home.applied ∙ ap (applies_to Home pace 0) home)
       ∙ ap (λ l. applies_to Home pace 0 (length farm.home.replicas) ++ l) (applies_is West pace 0 w.west.applied ∙ ap (applies_to West pace 0) west)
 
-  pub house_kept : (f0 f1 f2 f3 f4 : FarmParts K S) (at : Readings) (sent_old sent_new : ℕ) (before mid now : WireSeen)
-      → SendsAll f0.ledger.rows sent_old sent_new before mid → TakesAll content faults cache_of f0 f1 at mid now → BeatsIfDue content faults cache_of f1 f2 at
+  pub house_kept : (f0 f1 f2 f3 f4 : FarmParts K S) (at : Readings) (sent_old sent_new : ℕ) (before mid now : WireSeen) (room : ℕ) (held : List Taken)
+      → SendsAll f0.ledger.rows sent_old sent_new before mid → TakesAll content faults cache_of f0 f1 at mid now room held → BeatsIfDue content faults cache_of f1 f2 at
       → AppliesTo content faults cache_of f2 f3 at Home f2.plan.pace (length f2.home.replicas) → AppliesTo content faults cache_of f3 f4 at West f2.plan.pace (length f3.west.replicas)
-      → DoesHousework content faults cache_of f0 f4 sent_old sent_new at before now
-  house_kept f0 f1 f2 f3 f4 at sent_old sent_new before mid now sends takes beat home west = record {
+      → DoesHousework content faults cache_of f0 f4 sent_old sent_new at before now room held
+  house_kept f0 f1 f2 f3 f4 at sent_old sent_new before mid now room held sends takes beat home west = record {
     sent = sends.sent;
     halted = sends.halted;
     taken = takes.taken;
     emptied = takes.emptied;
+    at_once = takes.takes.at_once;
+    splits = takes.takes.splits;
     turns = carrying ++ keeping;
     keeps = keeps;
     later = sends.sends.later;
@@ -345,7 +281,7 @@ module _ {K S : Type 0} (content : K → Option (List Entry)) (faults : K → �
           (subst (λ ss. AllMade at ss (home.turns ++ west.turns)) steps
           (all_joined at (applies_to Home f2.plan.pace 0 (length f2.home.replicas)) (applies_to West f2.plan.pace 0 (length f3.west.replicas)) home.turns west.turns home.are west.are))
 
-      keeps : KeepsHouse content faults cache_of f0 f4 at f0.plan.pace takes.taken (carrying ++ keeping)
+      keeps : KeepsHouse content faults cache_of f0 f4 at f0.plan.pace takes.takes.at_once (carrying ++ keeping)
       keeps start earlier v stood =
           let (m, stands, went) = takes.takes.made.runs start earlier v stood in
           let (w, later, goes) = all.runs start (reverse carrying ++ earlier) m stands in

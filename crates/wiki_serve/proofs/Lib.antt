@@ -10,3 +10,7 @@ pub mod Writing
 pub mod Replying
 pub mod Batching
 pub mod Drawing
+pub mod Quiet
+pub mod Receivable
+pub mod Holding
+pub mod Receiving

@@ -1,5 +1,5 @@
 -- One turn of the loop over a connection: what was read, what was done for it, and what was written, make one exchange more or the end.
-use Rattle.std.proofs.Common.{◌≡◌, ℕ, ◌+◌, ◌≤◌, ◌<◌, Bool, true, false, List, [], ◌∷◌, ◌++◌, length, Option, Some, None, refl, sym, ap, subst, ◌∙◌, arith}
+use Rattle.std.proofs.Common.{◌≡◌, ℕ, ◌+◌, ◌<◌, Bool, List, [], ◌∷◌, Option, Some, None, refl, sym, ap, subst, ◌∙◌, arith}
 use Rattle.std.specs.Prelude.{◌==◌, ◌||◌, string_bytes}
 use Rattle.wiki_model.specs.Bytes.{Bytes}
 use Rattle.wiki_model.specs.Limits.{requests_max}
@@ -24,7 +24,7 @@ use Rattle.wiki_serve.specs.declared.read_arrival.Arrival.TheVariants as arrival
 use Rattle.wiki_serve.specs.declared.serve_arrival.Answered.{Answered}
 use Rattle.wiki_serve.specs.declared.serve_arrival.Reaction.{Reaction}
 use Rattle.wiki_serve.specs.declared.serve_arrival.Reaction.TheVariants as reaction
-use Rattle.wiki_serve.specs.Replies.{location_of, answer_reply, listed_reply}
+use Rattle.wiki_serve.specs.Replies.{answer_reply, listed_reply}
 use Rattle.wiki_serve.specs.Exchanges as exchange
 use Rattle.wiki_serve.specs.Exchanges.{Outcome, Exchange, Refusing, Serving, Service, Heard, AreHeard, services, incoming_of, closes, response, service_reply}
 use Rattle.wiki_serve.specs.Callers.{Desk}

@@ -1,11 +1,11 @@
 -- The response of each answer, put together from its parts.
-use Rattle.std.proofs.Common.{◌≡◌, ◌≤◌, List, [], ◌∷◌, ◌++◌, length, Bool, true, false, cond, refl, sym, ap, subst, ◌∙◌, append-nil, Result, Ok, Err}
+use Rattle.std.proofs.Common.{◌≡◌, List, [], ◌∷◌, ◌++◌, length, Bool, true, false, refl, sym, ap, subst, ◌∙◌, append-nil, Result, Ok, Err}
 use Rattle.std.specs.Prelude.{IfOk, if◌then◌else◌, codes}
 use Rattle.std.specs.Arc.{arc_value}
 use Rattle.wiki_model.specs.Bytes.{Bytes}
 use Rattle.wiki_model.specs.Answers.{Saved}
 use Rattle.wiki_model.specs.Report.{page_of}
-use Rattle.http_reply.specs.Reply.{Reply, head_of_length, answer_bytes}
+use Rattle.http_reply.specs.Reply.{head_of_length, answer_bytes}
 use Rattle.sticky_routes.specs.SetCookies.{value_at}
 use Rattle.region_state.specs.declared.answer.PageAnswer.{PageAnswer}
 use Rattle.region_state.specs.declared.answer.Answer.{Answer}

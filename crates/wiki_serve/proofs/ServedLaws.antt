@@ -1,26 +1,24 @@
 -- A connection served so far: where it begins, one more exchange, and each way in which it ends.
-use Rattle.std.specs.Prelude.{ℕ, ◌⊎◌, ◌≡◌, ◌<◌, ◌≤◌, ◌+◌, ◌-◌, Bool, true, false, if◌then◌else◌, List, [], ◌∷◌, ◌++◌, length, take, drop, reverse, Option, Some, None, IfSome, option_map, Result, Ok, Err, refl}
+use Rattle.std.specs.Prelude.{ℕ, ◌≡◌, ◌<◌, ◌≤◌, ◌+◌, Bool, true, false, if◌then◌else◌, List, [], ◌∷◌, ◌++◌, length, take, drop, reverse, Option, Some, None, IfSome, option_map, Result, Ok, Err, refl}
 use Rattle.std.proofs.Common.{arith, sym, ap, subst, ◌∙◌, append_assoc, append-nil, inl, inr}
-use Rattle.std.proofs.lemmas.List.{take-append-drop, reverse-append}
+use Rattle.std.proofs.lemmas.List.{take-append-drop}
 use Rattle.farm_base.specs.Exposed.{Adds, Stays, AddsPrefix}
 use Rattle.wiki_model.specs.Bytes.{Bytes}
 use Rattle.wiki_model.specs.Limits.{requests_max}
 use Rattle.wiki_model.specs.World.{World}
 use Rattle.wiki_model.specs.Steps.{Rose}
-use Rattle.wiki_model.specs.Runs.{Turn, Leads}
-use Rattle.wiki_model.specs.Serving.{GoesBy}
+use Rattle.wiki_model.specs.Runs.{Turn}
 use Rattle.wiki_model.specs.Asking.{Request, Refusal, Call, Fault}
 use Rattle.purge_relay.specs.Carried.{Carried}
-use Rattle.httparse.specs.Grammar.{RequestHead}
 use Rattle.http_desk.specs.Heads.{Head, said_by, head_fault}
 use Rattle.http_desk.specs.Calls.{call_of}
 use Rattle.http_desk.specs.Incoming.{Incoming, Closed as NoMore, Cut, Reads, ReadsAfter, incoming, IsRead}
 use Rattle.wiki_serve.specs.Exchanges.{Exchange, Refusing, Serving, Service, Heard, AreHeard, GivesAll, with_messages, counted_often, services, turns_of, incoming_of, closes, response, responses}
 use Rattle.wiki_serve.specs.Callers.{Desk}
 use Rattle.wiki_serve.specs.Services.{Held, DoesOne}
-use Rattle.wiki_serve.specs.Turns.{Standing, TurnsBy}
+use Rattle.wiki_serve.specs.Turns.{Standing}
 use Rattle.wiki_serve.specs.Housework.{counted_if}
-use Rattle.wiki_serve.specs.Connections.{Conn, End, Closed, CutOff, ReadFault, WriteFault, Ended, Enough, Memory, EndsBy, IsTalk, AddedText, Talks, HasEndCause, IsServed}
+use Rattle.wiki_serve.specs.Connections.{Conn, End, Closed, CutOff, ReadFault, WriteFault, Ended, Enough, Memory, EndsBy, IsTalk, AddedText, HasEndCause, IsServed}
 use Rattle.wiki_serve.specs.Served.{Seen, IsLater, ReadsFrom, WritesTo, HasReadAll, GoesOnBy, ServedSoFar, MayServeOn, HasOne, HearsOne}
 use Rattle.wiki_serve.proofs.OneMore.{reads_more, responses_more, longer, none_closes_more, may_go_on_more, does_more, services_more, turns_more, heard_more}
 

@@ -1,7 +1,7 @@
 -- Steps follow each other, each from the farm that the one before it left; so a run goes on by all their turns.
-use Rattle.std.proofs.Common.{◌≡◌, ℕ, ◌+◌, ◌≤◌, List, [], ◌∷◌, ◌++◌, Option, Some, None, refl, sym, ap, subst, ◌∙◌, arith, append_assoc, reverse}
+use Rattle.std.proofs.Common.{◌≡◌, ℕ, List, [], ◌∷◌, ◌++◌, Option, refl, sym, ap, subst, ◌∙◌, arith, append_assoc, reverse}
 use Rattle.std.proofs.lemmas.List.{reverse-append}
-use Rattle.std.specs.Prelude.{map, All}
+use Rattle.std.specs.Prelude.{map}
 use Rattle.std.proofs.lemmas.List.{map-append}
 use Rattle.std.proofs.lemmas.List.Elements.{All-nil, All-cons, All-append}
 use Rattle.wiki_model.specs.declared.Readings.{Readings}
@@ -11,10 +11,10 @@ use Rattle.wiki_model.specs.Cache.{CacheMap}
 use Rattle.wiki_model.specs.World.{World}
 use Rattle.wiki_model.specs.Answers.{Answer}
 use Rattle.wiki_model.specs.Steps.{Step}
-use Rattle.wiki_model.specs.Runs.{Turn, One, Leads}
+use Rattle.wiki_model.specs.Runs.{Turn, One}
 use Rattle.wiki_model.specs.Serving.{GoesBy, AllMade}
 use Rattle.farm_steps.specs.RequestMap.{Entries, open_at}
-use Rattle.farm_core.specs.FarmParts.{FarmParts, SameShape, IsWhole}
+use Rattle.farm_core.specs.FarmParts.{FarmParts, SameShape}
 use Rattle.farm_core.specs.RequestLife.{LeavesRequests}
 use Rattle.farm_core.specs.Runs.{Stands, Steps}
 use Rattle.wiki_serve.specs.Turns.{Standing, TurnsBy, MakesTurns, MakesStep}

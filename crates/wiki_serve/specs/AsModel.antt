@@ -1,13 +1,7 @@
 -- The values of the code as those of the definitions.
-use Rattle.std.specs.Prelude.{ℕ, Option}
-use Rattle.wiki_model.specs.declared.Readings.{Readings}
-use Rattle.wiki_model.specs.Bytes.{Bytes}
-use Rattle.farm_base.specs.Series.{Series}
-use Rattle.purge_relay.specs.Carried.{Carried}
 use Rattle.wiki_serve.specs.declared.connection.ConnEnd.{ConnEnd}
 use Rattle.wiki_serve.specs.declared.connection.ConnEnd.TheVariants as ended
-use Rattle.wiki_serve.specs.Exchanges.{Heard}
-use Rattle.wiki_serve.specs.Connections.{Conn, End, Closed, CutOff, ReadFault, WriteFault, Ended, Enough, Memory}
+use Rattle.wiki_serve.specs.Connections.{End, Closed, CutOff, ReadFault, WriteFault, Ended, Enough, Memory}
 
 abbrev pub end_of : ConnEnd → End
 end_of ended.Closed = Closed

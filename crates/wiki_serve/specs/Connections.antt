@@ -1,5 +1,5 @@
 -- One connection from its first byte to its end.
-use Rattle.std.specs.Prelude.{ℕ, ◌≡◌, ◌⊎◌, ◌<◌, Bool, true, false, List, [], ◌∷◌, ◌++◌, length, reverse, All, Option}
+use Rattle.std.specs.Prelude.{ℕ, ◌≡◌, ◌⊎◌, ◌<◌, true, false, List, [], ◌∷◌, ◌++◌, length, reverse, All, Option}
 use Rattle.std.specs.Prelude.{IfSome}
 use Rattle.wiki_model.specs.Bytes.{Bytes}
 use Rattle.wiki_model.specs.Limits.{requests_max}
@@ -10,7 +10,7 @@ use Rattle.http_desk.specs.Incoming.{Cut, Reads}
 use Rattle.wiki_serve.specs.Exchanges.{Exchange, Service, Heard, AreHeard, services, turns_of, incoming_of, closes}
 use Rattle.wiki_serve.specs.Exchanges.{response, responses}
 use Rattle.wiki_serve.specs.Callers.{Desk}
-use Rattle.wiki_serve.specs.Services.{Held, DoesOne, DoesAll}
+use Rattle.wiki_serve.specs.Services.{DoesOne, DoesAll}
 
 -- the requests are read from the input one after another, and rest is left
 abbrev pub ReadsAll : {A : Type 0} → (input : Bytes) → List (Exchange A) → (rest : Bytes) → Type 0

@@ -1,5 +1,5 @@
--- What is done before each request that is served: unsent messages are sent, messages that came are carried, a beat is
--- made if it is due, and each replica applies.
+-- What is done before each request that is served: unsent messages are sent, messages that came are carried or held
+-- back for a round, a beat is made if it is due, and each replica applies.
 use Rattle.std.specs.Prelude.{ℕ, zero, suc, ◌≡◌, ◌<◌, ◌≤◌, ◌+◌, ◌-◌, Bool, true, false, if◌then◌else◌, List, [], ◌∷◌}
 use Rattle.std.specs.Prelude.{◌++◌, length, reverse, Option, Some, None, option_map}
 use Rattle.farm_base.specs.Causes.{counted}
@@ -13,10 +13,9 @@ use Rattle.wiki_model.specs.World.{World, Asked}
 use Rattle.wiki_model.specs.Answers.{Answer}
 use Rattle.wiki_model.specs.Steps.{Step}
 use Rattle.wiki_model.specs.Runs.{Turn}
-use Rattle.wiki_model.specs.Serving.{AllMade, Taken, carries, is_due, is_past, beat_if, Housekeeps}
+use Rattle.wiki_model.specs.Serving.{AllMade, Taken, carries, is_due, beat_if, Housekeeps}
 use Rattle.purge_relay.specs.Carried.{Carried}
 use Rattle.purge_relay.specs.AsModel.{body_of}
-use Rattle.purge_relay.specs.declared.message.Message.{Message}
 use Rattle.purge_relay.specs.declared.ledger_row.LedgerRow.{LedgerRow}
 use Rattle.purge_relay.specs.Ledger.{row_at}
 use Rattle.farm_steps.specs.RequestMap.{open_at}
@@ -26,10 +25,7 @@ use Rattle.farm_core.specs.Runs.{Stands}
 use Rattle.wiki_serve.specs.Exchanges.{with_messages}
 use Rattle.wiki_serve.specs.Services.{numbers_from}
 use Rattle.wiki_serve.specs.Turns.{MakesTurns, MakesAsked}
-
--- a message as it is told of
-abbrev pub taken_of : Message → Taken
-taken_of message = record { number = message.number; body = body_of message.body }
+use Rattle.wiki_serve.specs.HoldingBack.{SplitsAs}
 
 -- a count, after something that may have raised it
 abbrev pub counted_if : Bool → ℕ → ℕ
@@ -82,31 +78,34 @@ pub record SendsAll (rows : List LedgerRow) (before now : ℕ) (old new : WireSe
 
 -- Taking
 
--- so many messages were taken and carried
+-- these messages were taken: some are held, of which there may be so many, and the others were carried at once
 pub record TakesSome {K S : Type 0} (content : K → Option (List Entry)) (faults : K → ℕ)
-    (cache_of : S → CacheMap Bytes) (old new : FarmParts K S) (at : Readings) (before now : WireSeen)
-    (taken : List Taken) (emptied : Bool) : Type 0 where
+    (cache_of : S → CacheMap Bytes) (old new : FarmParts K S) (at : Readings) (before now : WireSeen) (room : ℕ)
+    (held taken : List Taken) (emptied : Bool) : Type 0 where
+  pub at_once : List Taken
   pub turns : List Turn
   pub made : MakesTurns content faults cache_of old new turns
-  pub are : AllMade at (carries taken) turns
+  pub are : AllMade at (carries at_once) turns
+  pub splits : SplitsAs content faults cache_of old room taken at_once held
   pub carried : now.carried ≡ option_map (with_messages [] taken) before.carried
   pub refused : now.refused ≡ before.refused
   pub empty : now.empty ≡ counted_if emptied before.empty
 
 -- between two takes
 pub record IsTaking {K S : Type 0} (content : K → Option (List Entry)) (faults : K → ℕ)
-    (cache_of : S → CacheMap Bytes) (old new : FarmParts K S) (at : Readings) (before now : WireSeen)
-    (count : ℕ) : Type 0 where
+    (cache_of : S → CacheMap Bytes) (old new : FarmParts K S) (at : Readings) (before now : WireSeen) (room : ℕ)
+    (held : List Taken) (count : ℕ) : Type 0 where
   pub taken : List Taken
-  pub takes : TakesSome content faults cache_of old new at before now taken false
+  pub takes : TakesSome content faults cache_of old new at before now room held taken false
   pub number : length taken ≡ count
 
--- Messages were taken and carried, until none came or there were enough.
+-- Messages were taken, and held or carried, until none came or there were enough.
 pub record TakesAll {K S : Type 0} (content : K → Option (List Entry)) (faults : K → ℕ)
-    (cache_of : S → CacheMap Bytes) (old new : FarmParts K S) (at : Readings) (before now : WireSeen) : Type 0 where
+    (cache_of : S → CacheMap Bytes) (old new : FarmParts K S) (at : Readings) (before now : WireSeen) (room : ℕ)
+    (held : List Taken) : Type 0 where
   pub taken : List Taken
   pub emptied : Bool
-  pub takes : TakesSome content faults cache_of old new at before now taken emptied
+  pub takes : TakesSome content faults cache_of old new at before now room held taken emptied
   pub few : emptied ≡ true → length taken < messages_max
   pub full : emptied ≡ false → length taken ≡ messages_max
 
@@ -140,22 +139,25 @@ pub record AppliesTo {K S : Type 0} (content : K → Option (List Entry)) (fault
 
 -- each run goes on by a housekeeping
 abbrev pub KeepsHouse : {K S : Type 0} → (K → Option (List Entry)) → (K → ℕ) → (S → CacheMap Bytes)
-    → (old new : FarmParts K S) → Readings → (pace : ℕ) → List Taken → List Turn → Type 0
-KeepsHouse content faults cache_of old new at pace taken turns =
+    → (old new : FarmParts K S) → Readings → (pace : ℕ) → (at_once : List Taken) → List Turn → Type 0
+KeepsHouse content faults cache_of old new at pace at_once turns =
     (start : World) (earlier : List Turn) (v : World) → Stands content faults cache_of old start earlier v
     → (w : World) × Stands content faults cache_of new start (reverse turns ++ earlier) w
-    × Housekeeps at pace taken v turns w
+    × Housekeeps at pace at_once v turns w
 
--- The housekeeping of one request.
+-- The housekeeping of one request, for whose round these messages are held, of which there may be so many.
 pub record DoesHousework {K S : Type 0} (content : K → Option (List Entry)) (faults : K → ℕ)
     (cache_of : S → CacheMap Bytes) (old new : FarmParts K S) (sent_old sent_new : ℕ) (at : Readings)
-    (before now : WireSeen) : Type 0 where
+    (before now : WireSeen) (room : ℕ) (held : List Taken) : Type 0 where
   pub sent : List Taken
   pub halted : Bool
   pub taken : List Taken
   pub emptied : Bool
+  -- the messages that were carried; with those that are held they are all that were taken
+  pub at_once : List Taken
+  pub splits : SplitsAs content faults cache_of old room taken at_once held
   pub turns : List Turn
-  pub keeps : KeepsHouse content faults cache_of old new at old.plan.pace taken turns
+  pub keeps : KeepsHouse content faults cache_of old new at old.plan.pace at_once turns
   pub later : sent_old ≤ sent_new
   pub within : sent_old ≤ length old.ledger.rows → sent_new ≤ length old.ledger.rows
   pub are : AreRows old.ledger.rows (numbers_from (sent_old + 1) (sent_new - sent_old)) sent
@@ -170,10 +172,10 @@ pub record DoesHousework {K S : Type 0} (content : K → Option (List Entry)) (f
   pub shape : SameShape old new
   pub counts : faults old.keeper ≤ faults new.keeper
 
--- A whole request was made after its housekeeping.
+-- A whole request was made after its housekeeping, for which nothing is held.
 pub record ServesAsked {K S : Type 0} (content : K → Option (List Entry)) (faults : K → ℕ)
     (cache_of : S → CacheMap Bytes) (old new : FarmParts K S) (sent_old sent_new : ℕ) (at : Readings)
     (before now : WireSeen) (asked : Asked) (answer : Answer) : Type 0 where
   pub middle : FarmParts K S
-  pub housework : DoesHousework content faults cache_of old middle sent_old sent_new at before now
+  pub housework : DoesHousework content faults cache_of old middle sent_old sent_new at before now 0 []
   pub own : MakesAsked content faults cache_of middle new at asked answer

@@ -7,6 +7,7 @@ pub mod Connections
 pub mod Served
 pub mod Turns
 pub mod Housework
+pub mod HoldingBack
 pub mod AsModel
 pub mod BatchSteps
 pub mod Reactions

@@ -1,5 +1,5 @@
 -- The three parts of one exchange: what is read, what is done for it, and what is written.
-use Rattle.std.specs.Prelude.{ℕ, ◌≡◌, ◌≤◌, ◌==◌, ◌||◌, Bool, true, false, if◌then◌else◌, List, [], ◌∷◌, ◌++◌, reverse}
+use Rattle.std.specs.Prelude.{ℕ, ◌≡◌, ◌≤◌, ◌==◌, ◌||◌, Bool, true, false, if◌then◌else◌, List, [], ◌++◌, reverse}
 use Rattle.std.specs.Prelude.{Option, Some, None, option_map, string_bytes}
 use Rattle.farm_base.specs.Exposed.{AddsPrefix}
 use Rattle.wiki_model.specs.declared.Readings.{Readings}
@@ -32,7 +32,6 @@ use Rattle.wiki_serve.specs.declared.read_arrival.Arrival.TheVariants as arrival
 use Rattle.wiki_serve.specs.declared.serve_arrival.Answered.{Answered}
 use Rattle.wiki_serve.specs.declared.serve_arrival.Reaction.{Reaction}
 use Rattle.wiki_serve.specs.declared.serve_arrival.Reaction.TheVariants as reaction
-use Rattle.wiki_serve.specs.declared.serve_arrival.Listed.{Listed}
 use Rattle.wiki_serve.specs.declared.serve_batch.Said.{Said}
 use Rattle.wiki_serve.specs.declared.serve_batch.Said.TheVariants as said
 use Rattle.wiki_serve.specs.Replies.{location_of, answer_reply, batch_body, listed_reply}

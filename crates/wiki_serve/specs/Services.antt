@@ -1,5 +1,5 @@
 -- What is done for one request, and for all of a connection.
-use Rattle.std.specs.Prelude.{ℕ, zero, suc, ◌≡◌, ◌<◌, ◌+◌, ◌-◌, Bool, true, false, List, [], ◌∷◌, ◌++◌, length, Option}
+use Rattle.std.specs.Prelude.{ℕ, zero, suc, ◌≡◌, ◌<◌, ◌+◌, ◌-◌, true, false, List, [], ◌∷◌, ◌++◌, length}
 use Rattle.std.specs.Prelude.{Some, option_map}
 use Rattle.wiki_model.specs.Limits.{messages_max}
 use Rattle.wiki_model.specs.World.{World, message_at}

@@ -7,10 +7,13 @@ ghost use Rattle.purge_relay.specs.AsModel.{body_of};
 ghost use Rattle.farm_steps.specs.ViewSteps.{region_at};
 ghost use Rattle.farm_core.specs.FarmParts.{IsWhole};
 ghost use Rattle.wiki_serve.specs.Turns.{MakesStep};
-ghost use Rattle.wiki_serve.specs.Housework.{IsRow, taken_of, wire_seen, SendsAll, TakesAll, BeatsIfDue, AppliesTo};
+ghost use Rattle.wiki_serve.specs.Housework.{IsRow, wire_seen, SendsAll, TakesAll, BeatsIfDue, AppliesTo};
 ghost use Rattle.wiki_serve.specs.Housework.{DoesHousework};
+ghost use Rattle.wiki_serve.specs.HoldingBack.{IsEmpty, HasRoom, taken_of, all_taken, held_of, is_held, TakesOne};
+ghost use Rattle.wiki_serve.specs.HoldingBack.{CarriesAll};
 ghost use Rattle.slot_cache.specs.AsModel.{map_of};
 
+use crate::held_purges::{HeldPurges, hold, is_to_hold};
 use crate::served_farm::ServedFarm;
 use farm_base::{BEAT_AFTER, MOMENT_MAX, Readings, Region};
 use farm_core::{Farm, Page};
@@ -22,20 +25,24 @@ use slot_cache::SlotCache;
 pub const TAKEN_MAX: u32 = 256; // messages
 
 /// Keeps the house before a request, at its readings: the unsent messages are sent in order, until one is refused;
-/// messages are taken and carried, until none comes or there were enough; a beat is made if it is due; and each replica
-/// applies, home's first. What these steps answer ends nothing and is shown to no one.
+/// messages are taken and carried, until none comes or there were enough, but the first purges are held back if there
+/// is room for them; a beat is made if it is due; and each replica applies, home's first. What these steps answer ends
+/// nothing and is shown to no one.
 pub(crate) fn keep_house<K: Keeper, W: Wire>(
     served: &mut ServedFarm<K, SlotCache<Page>>,
     at: &Readings,
     wire: &mut W,
+    held: &mut HeldPurges,
 )
-    requires { IsWhole served.old.farm }
-    ensures { DoesHousework K.content K.faults map_of served.old.farm served.new.farm served.old.sent served.new.sent
-        at.now (wire_seen (W.carried wire.old) (W.refused wire.old) (W.empty wire.old))
-        (wire_seen (W.carried wire.new) (W.refused wire.new) (W.empty wire.new)) }
+    requires whole { IsWhole served.old.farm }
+    requires empty { IsEmpty held.old }
+    ensures keeps { DoesHousework K.content K.faults map_of served.old.farm served.new.farm served.old.sent
+        served.new.sent at.now (wire_seen (W.carried wire.old) (W.refused wire.old) (W.empty wire.old))
+        (wire_seen (W.carried wire.new) (W.refused wire.new) (W.empty wire.new)) held.old.room (held_of held.new) }
+    ensures few { length held.new.messages.items ≤ held.old.room }
 {
     send_unsent(&served.farm, &mut served.sent, wire);
-    carry_taken(&mut served.farm, at, wire);
+    carry_taken(&mut served.farm, at, wire, held);
     beat_if_due(&mut served.farm, at);
     let pace = served.farm.plan().pace;
     apply_region(&mut served.farm, at, Region::Home, pace);
@@ -70,20 +77,64 @@ fn message_after<K: Keeper>(farm: &Farm<K, SlotCache<Page>>, sent: u64) -> Optio
     }
 }
 
-/// Takes messages from the wire and carries them, until none comes or there were [`TAKEN_MAX`].
-fn carry_taken<K: Keeper, W: Wire>(farm: &mut Farm<K, SlotCache<Page>>, at: &Readings, wire: &mut W)
-    requires { IsWhole farm.old }
-    ensures { TakesAll K.content K.faults map_of farm.old farm.new at.now
+/// Takes messages from the wire until none comes or there were [`TAKEN_MAX`]. The first purges are held back, if there
+/// is room for them, and all other messages are carried.
+fn carry_taken<K: Keeper, W: Wire>(
+    farm: &mut Farm<K, SlotCache<Page>>,
+    at: &Readings,
+    wire: &mut W,
+    held: &mut HeldPurges,
+)
+    requires whole { IsWhole farm.old }
+    requires empty { IsEmpty held.old }
+    ensures takes { TakesAll K.content K.faults map_of farm.old farm.new at.now
         (wire_seen (W.carried wire.old) (W.refused wire.old) (W.empty wire.old))
-        (wire_seen (W.carried wire.new) (W.refused wire.new) (W.empty wire.new)) }
+        (wire_seen (W.carried wire.new) (W.refused wire.new) (W.empty wire.new)) held.old.room (held_of held.new) }
+    ensures few { length held.new.messages.items ≤ held.old.room }
 {
     let mut count = 0;
     'taking: while count < TAKEN_MAX {
         match wire.take() {
-            Ok(Some(message)) => carry_one(farm, at, message),
+            Ok(Some(message)) => hold_or_carry(farm, at, held, message),
             Ok(None) | Err(_) => return,
         }
         count += 1;
+    }
+}
+
+/// Holds a message back, or carries it.
+fn hold_or_carry<K: Keeper>(
+    farm: &mut Farm<K, SlotCache<Page>>,
+    at: &Readings,
+    held: &mut HeldPurges,
+    message: Message,
+)
+    requires whole { IsWhole farm.old }
+    requires room { HasRoom held.old }
+    ensures takes { TakesOne K.content K.faults map_of
+        (is_held farm.old.ledger.rows held.old.room (length held.old.messages.items) (taken_of message)) farm.old
+        farm.new at.now (taken_of message) (held_of held.old) (held_of held.new) }
+    ensures room { HasRoom held.new }
+    ensures same { held.new.room ≡ held.old.room }
+{
+    if is_to_hold(farm, held, &message) {
+        hold(held, message);
+    } else {
+        carry_one(farm, at, message);
+    }
+}
+
+/// Carries the messages that were held back, in their order.
+pub(crate) fn carry_held<K: Keeper>(
+    farm: &mut Farm<K, SlotCache<Page>>,
+    at: &Readings,
+    messages: Vec<Message>,
+)
+    requires { IsWhole farm.old }
+    ensures { CarriesAll K.content K.faults map_of farm.old farm.new at.now (all_taken messages.items) }
+{
+    for message in messages {
+        carry_one(farm, at, message);
     }
 }
 

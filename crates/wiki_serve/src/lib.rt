@@ -7,6 +7,10 @@
 //! its own steps, up to its first answer; a batch ends with one round of all its titles. (5) The answer becomes the
 //! response. (6) The next request is read, until the connection ends ([`ConnEnd`]).
 //!
+//! With a batch of west the first purges that came are held back in (3), as many as its round has jobs beside the
+//! titles. The round receives them after its views; only if the batch ended before its round are they carried, before
+//! (5).
+//!
 //! The idea is one clause for the whole connection (`IsServed`): there is a list of exchanges, each a request with what
 //! was done for it, such that the bytes that were read are these requests, the bytes that were written are their
 //! responses, what clocks, lots and wire gave is what they took, and each run for which the farm stood goes on by their
@@ -18,6 +22,7 @@
 //! ```text
 //! GET /wiki/Main_Page HTTP/1.1, Host: home.example     the steps arrive, wait, look, snap, store; 404 no-page source=1
 //! GET /batch?titles=A%7CB HTTP/1.1, Host: home.example the steps arrive, wait, need, a round; 200, a line a page
+//! the same of west.example, with A's purge             the same, and the round receives the purge; 200, a line a page
 //! end of input                                         ConnEnd::Closed
 //! ```
 #![tactic(auto)]
@@ -25,6 +30,7 @@
 mod asked_steps;
 mod callers;
 mod connection;
+mod held_purges;
 mod housework;
 mod list_answers;
 mod read_arrival;

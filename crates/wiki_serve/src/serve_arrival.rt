@@ -18,6 +18,7 @@ ghost use Rattle.slot_cache.specs.AsModel.{map_of};
 use crate::asked_steps::{make_edit, make_view};
 use crate::callers::{Visit, caller_of, moment_for, view_by};
 use crate::connection::ConnEnd;
+use crate::held_purges::none_held;
 use crate::housework::keep_house;
 use crate::read_arrival::Arrival;
 use crate::replies::location_of;
@@ -210,7 +211,7 @@ fn serve_call<R: Threads + Sync, K: Keeper, L: Lots, W: Wire>(
                 base,
                 text,
             };
-            Said::One(serve_edit(served, wire, &at, ask))
+            Said::One(serve_edit(alloc, served, wire, &at, ask))
         }
         Call::Batch(titles) => {
             let Some(room) = room else { unreachable!() };
@@ -234,7 +235,8 @@ fn serve_view<K: Keeper, W: Wire>(
         (wire_seen (W.carried wire.new) (W.refused wire.new) (W.empty wire.new))
         (AskedView (view_of ask)) (answer_of result) }
 {
-    keep_house(served, at, wire);
+    let mut held = none_held(alloc);
+    keep_house(served, at, wire, &mut held);
     let Some(answer) = make_view(alloc, &mut served.farm, at, ask) else {
         unreachable!()
     };
@@ -242,6 +244,7 @@ fn serve_view<K: Keeper, W: Wire>(
 }
 
 fn serve_edit<K: Keeper, W: Wire>(
+    alloc: Global,
     served: &mut ServedFarm<K, SlotCache<Page>>,
     wire: &mut W,
     at: &Readings,
@@ -254,7 +257,8 @@ fn serve_edit<K: Keeper, W: Wire>(
         (wire_seen (W.carried wire.new) (W.refused wire.new) (W.empty wire.new))
         (AskedEdit (edit_of ask)) (answer_of result) }
 {
-    keep_house(served, at, wire);
+    let mut held = none_held(alloc);
+    keep_house(served, at, wire, &mut held);
     let Some(answer) = make_edit(&mut served.farm, at, ask) else {
         unreachable!()
     };

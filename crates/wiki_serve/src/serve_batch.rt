@@ -1,7 +1,8 @@
-// A batch: a view of each title, all of them in one round of the region's cache.
+// A batch: a view of each title, all of them in one round of the region's cache, which then receives purges that came.
 ghost use Rattle.std.specs.Prelude.{◌≡◌, ◌≤◌, ◌<◌, ◌+◌, ◌++◌, ◌∷◌, [], length, map, IfOk, IfErr, Some, None};
 ghost use Rattle.wiki_model.specs.Bytes.{first_of_list};
 ghost use Rattle.wiki_model.specs.Limits.{jobs_max};
+ghost use Rattle.wiki_model.specs.Serving.{room_beside};
 ghost use Rattle.wiki_model.specs.Steps.{region_of};
 ghost use Rattle.http_desk.specs.AsModel.{call_shown};
 ghost use Rattle.slot_cache.specs.AsModel.{map_of};
@@ -11,16 +12,19 @@ ghost use Rattle.farm_steps.specs.RequestMap.{open_at};
 ghost use Rattle.wiki_serve.specs.Callers.{view_by};
 ghost use Rattle.wiki_serve.specs.Housework.{wire_seen};
 ghost use Rattle.wiki_serve.specs.BatchSteps.{HasRoomFor, IsRoomFor, IsDrawn, IsOneDrawn, pair_of, word_of, job_at};
-ghost use Rattle.wiki_serve.specs.BatchSteps.{FindsNeed, MakesBatch, ServesBatch, said_outcome};
+ghost use Rattle.wiki_serve.specs.BatchSteps.{HasRoomForJobs, room_of, FindsNeed, MakesBatch, ServesBatch};
+ghost use Rattle.wiki_serve.specs.BatchSteps.{said_outcome};
+ghost use Rattle.wiki_serve.specs.HoldingBack.{IsEmpty, held_of};
 
 use crate::asked_steps::of_view;
 use crate::callers::{Caller, view_by};
-use crate::housework::keep_house;
+use crate::held_purges::{HeldPurges, with_receipts};
+use crate::housework::{carry_held, keep_house};
 use crate::served_farm::ServedFarm;
 use farm_base::{Lots, Memory, Readings, Region};
 use farm_core::{Answer, Farm, Page, ViewAsk};
 use http_desk::Call;
-use purge_relay::Wire;
+use purge_relay::{Message, Wire};
 use region_round::{JOBS_MAX, Job, OpenGate, RoundAsk, ViewJob, round};
 use revision_keeper::Keeper;
 use slot_cache::SlotCache;
@@ -42,8 +46,10 @@ pub struct BatchRoom {
     pub first: Title,
     /// Room for each title with its word.
     pub drawn: Vec<Drawn>,
-    /// Room for a job of each title.
+    /// Room for each job of a round.
     pub jobs: Vec<Job>,
+    /// Room for a purge for each job that is no title's.
+    pub held: Vec<Message>,
 }
 
 /// What a batch asks for.
@@ -52,8 +58,10 @@ pub struct BatchAsk {
     /// The view of the first title and word.
     pub view: ViewAsk,
     pub drawn: Vec<Drawn>,
-    /// Room for a job of each title.
+    /// Room for each job of a round.
     pub jobs: Vec<Job>,
+    /// The purges that its round receives.
+    pub held: HeldPurges,
 }
 
 /// What a request was answered.
@@ -86,7 +94,8 @@ fn batch_room(alloc: Global, titles: &[Title]) -> Result<BatchRoom, Memory>
     Ok(BatchRoom {
         first: first.clone()?,
         drawn: Vec::with_capacity(alloc, titles.len())?,
-        jobs: Vec::with_capacity(alloc, titles.len())?,
+        jobs: Vec::with_capacity(alloc, JOBS_MAX)?,
+        held: Vec::with_capacity(alloc, JOBS_MAX - titles.len())?,
     })
 }
 
@@ -102,14 +111,39 @@ pub(crate) fn ask_batch<L: Lots>(
     ensures word { first_of_list (map word_of result.drawn.items) ≡ Some result.view.word }
     ensures title { first_of_list titles.items ≡ Some result.view.title }
     ensures view { result.view ≡ view_by caller result.view.word result.view.title }
-    ensures few { length result.drawn.items ≤ jobs_max }
-    ensures empty { result.jobs.items ≡ [] }
-    ensures fits { length result.drawn.items ≤ result.jobs.cap }
+    ensures jobs { HasRoomForJobs result }
+    ensures held { IsEmpty result.held }
+    ensures beside { result.held.room ≡ room_of result }
 {
-    let BatchRoom { first, drawn, jobs } = room;
+    let BatchRoom {
+        first,
+        drawn,
+        jobs,
+        held,
+    } = room;
     let drawn = draw_words(lots, titles, drawn);
     let view = view_by(caller, first_word(&drawn), first);
-    BatchAsk { view, drawn, jobs }
+    let held = HeldPurges {
+        room: room_beside(region_of(&view), drawn.len()),
+        messages: held,
+    };
+    BatchAsk {
+        view,
+        drawn,
+        jobs,
+        held,
+    }
+}
+
+/// How many purges a round of this region may receive beside the views of so many titles: home's receives none.
+fn room_beside(region: Region, titles: usize) -> usize
+    requires { titles ≤ jobs_max }
+    ensures { result ≡ room_beside region titles }
+{
+    match region {
+        Region::Home => 0,
+        Region::West => JOBS_MAX - titles,
+    }
 }
 
 /// Draws a word for each title, in their order. There is room for them.
@@ -159,19 +193,33 @@ pub(crate) fn serve_batch<R: Threads + Sync, K: Keeper, W: Wire>(
 ) -> Said
     requires whole { IsWhole served.old.farm }
     requires free { open_at served.old.farm.requests 0 ≡ None }
-    requires few { length ask.drawn.items ≤ jobs_max }
-    requires empty { ask.jobs.items ≡ [] }
-    requires room { length ask.drawn.items ≤ ask.jobs.cap }
+    requires jobs { HasRoomForJobs ask }
+    requires held { IsEmpty ask.held }
+    requires beside { ask.held.room ≡ room_of ask }
     ensures { ServesBatch K.content K.faults map_of served.old.farm served.new.farm served.old.sent served.new.sent
         at.now (wire_seen (W.carried wire.old) (W.refused wire.old) (W.empty wire.old))
         (wire_seen (W.carried wire.new) (W.refused wire.new) (W.empty wire.new))
         (view_of ask.view) (map pair_of ask.drawn.items) (said_outcome ask.view.title result) }
 {
-    keep_house(served, at, wire);
+    let BatchAsk {
+        view,
+        drawn,
+        jobs,
+        held,
+    } = ask;
+    let mut held = held;
+    keep_house(served, at, wire, &mut held);
+    let ask = BatchAsk {
+        view,
+        drawn,
+        jobs,
+        held,
+    };
     make_batch(rt, alloc, &mut served.farm, at, ask)
 }
 
-/// A batch after its housekeeping: the first title's view waits and tells its need, and then there is a round.
+/// A batch after its housekeeping: the first title's view waits and tells its need, and then there is a round, which
+/// receives the purges that are held. If the view ends before its need is known, they are carried.
 fn make_batch<R: Threads + Sync, K: Keeper>(
     rt: &R,
     alloc: Global,
@@ -181,24 +229,32 @@ fn make_batch<R: Threads + Sync, K: Keeper>(
 ) -> Said
     requires whole { IsWhole farm.old }
     requires free { open_at farm.old.requests 0 ≡ None }
-    requires few { length ask.drawn.items ≤ jobs_max }
-    requires empty { ask.jobs.items ≡ [] }
-    requires room { length ask.drawn.items ≤ ask.jobs.cap }
+    requires jobs { HasRoomForJobs ask }
+    requires held { length ask.held.messages.items ≤ room_of ask }
     ensures { MakesBatch K.content K.faults map_of farm.old farm.new at.now (view_of ask.view)
-        (map pair_of ask.drawn.items) (said_outcome ask.view.title result) }
+        (map pair_of ask.drawn.items) (held_of ask.held) (said_outcome ask.view.title result) }
 {
-    let BatchAsk { view, drawn, jobs } = ask;
+    let BatchAsk {
+        view,
+        drawn,
+        jobs,
+        held,
+    } = ask;
     let region = region_of(&view);
     match find_need(farm, at, view) {
         Ok(need) => {
-            let jobs = view_jobs(drawn, need, jobs);
+            let views = view_jobs(drawn, need, jobs);
+            let jobs = with_receipts(farm, held.messages, views);
             let at = *at;
             match round(rt, alloc, farm, RoundAsk { region, jobs, at }, &OpenGate) {
                 Ok(answers) => Said::Many(answers),
                 Err(_) => Said::One(Answer::Memory),
             }
         }
-        Err(answer) => Said::One(answer),
+        Err(answer) => {
+            carry_held(farm, at, held.messages);
+            Said::One(answer)
+        }
     }
 }
 
@@ -240,7 +296,8 @@ fn find_need<K: Keeper>(
 fn view_jobs(drawn: Vec<Drawn>, need: u64, room: Vec<Job>) -> Vec<Job>
     requires empty { room.items ≡ [] }
     requires room { length drawn.items ≤ room.cap }
-    ensures { result.items ≡ map (job_at need) drawn.items }
+    ensures jobs { result.items ≡ map (job_at need) drawn.items }
+    ensures room { room.cap ≤ result.cap }
 {
     let mut jobs = room;
     for one in drawn {

@@ -1,4 +1,4 @@
-use Rattle.std.proofs.Common.{◌+◌, ◌≤◌, [], refl, sym, subst, ◌∙◌, arith}
+use Rattle.std.proofs.Common.{[], refl, sym, subst, ◌∙◌, arith}
 use Rattle.slot_cache.specs.AsModel.{map_of}
 use Rattle.wiki_serve.specs.Exchanges.{heard_seen}
 use Rattle.wiki_serve.specs.Connections.{conn_seen}

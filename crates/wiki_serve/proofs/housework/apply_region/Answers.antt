@@ -1,4 +1,4 @@
-use Rattle.std.proofs.Common.{◌+◌, arith}
+use Rattle.std.proofs.Common.{arith}
 use Rattle.slot_cache.specs.AsModel.{map_of}
 use Rattle.wiki_serve.proofs.Houses.{applies_none, applies_next}
 use Rattle.wiki_serve.proofs.housework.apply_region.Goals as goal

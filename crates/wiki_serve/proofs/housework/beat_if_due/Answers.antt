@@ -1,4 +1,3 @@
-use Rattle.std.proofs.Common.{sym, ◌∙◌}
 use Rattle.slot_cache.specs.AsModel.{map_of}
 use Rattle.wiki_serve.proofs.Houses.{beat_made, beat_left}
 use Rattle.wiki_serve.proofs.housework.beat_if_due.Goals as goal

@@ -1,5 +1,6 @@
-use Rattle.std.proofs.Common.{◌∙◌, ◌+◌, arith}
-use Rattle.wiki_serve.specs.Housework.{taken_of, wire_seen}
+use Rattle.std.proofs.Common.{◌∙◌, arith}
+use Rattle.wiki_serve.specs.Housework.{wire_seen}
+use Rattle.wiki_serve.specs.HoldingBack.{taken_of}
 use Rattle.wiki_serve.proofs.Houses.{sent_one, sends_more}
 use Rattle.wiki_serve.proofs.housework.send_unsent.Goals as goal
 

@@ -1,4 +1,4 @@
-use Rattle.std.proofs.Common.{◌≤◌, ◌<◌, ◌+◌, arith}
+use Rattle.std.proofs.Common.{arith}
 use Rattle.std.specs.Vec.Iter.{into_iter_items, into_iter_len}
 use Rattle.wiki_serve.proofs.Drawing.{left_length, drawing_more}
 use Rattle.wiki_serve.proofs.serve_batch.draw_words.Goals as goal

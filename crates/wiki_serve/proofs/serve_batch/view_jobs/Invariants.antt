@@ -9,4 +9,5 @@ invariant-loop-one l =
     × goal.iterator-loop-one.is_finite l.one-iterator
     × (into_iter_len l.one-iterator ≡ length (into_iter_items l.one-iterator))
     × (length l.fn.drawn.items ≤ l.jobs.cap)
+    × (l.fn.room.cap ≤ l.jobs.cap)
     × IsAdding l.need l.fn.drawn.items (into_iter_items l.one-iterator) l.jobs.items
