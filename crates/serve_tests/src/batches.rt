@@ -1,5 +1,5 @@
 // Several pages at once, byte for byte.
-use crate::setting::{both, conn_of, said_later, saved_three, serve_by, small_farm, written};
+use crate::setting::{both, said_by, said_later, saved_three, small_farm};
 use farm_base::{MemClock, Region};
 use farm_core::{Farm, Page};
 use purge_relay::{Deal, FarmWire};
@@ -10,7 +10,7 @@ use std::process::Abort;
 use std::test::Fail;
 use std::thread::Threads;
 use wan_cache::RegionStore;
-use wiki_serve::{ConnEnd, ServedFarm};
+use wiki_serve::ServedFarm;
 
 fn carry<K: Keeper, S: RegionStore<Page>>(farm: &mut Farm<K, S>, number: u64) -> Result<(), Fail> {
     if !farm.is_whole() || farm.carry(both(5_000), number, None).is_some() {
@@ -170,17 +170,27 @@ fn hits_what_was_viewed<R: AllocGlobal + Threads + Sync + Abort, K: Keeper + Dro
     rt: &R,
     keeper: K,
 ) -> Result<(), Fail> {
-    let alloc = rt.alloc();
-    let mut served = small_farm(alloc, keeper)?;
-    let mut wire = FarmWire::new(alloc);
-    let mut conn = conn_of(alloc, SAVED_VIEWED_AND_LISTED.as_bytes(), 65_536)?;
+    let mut served = small_farm(rt.alloc(), keeper)?;
+    let text = said_at_5_and_30_seconds(rt, &mut served, SAVED_VIEWED_AND_LISTED)?;
+    assert!(rt; text.as_str().ends_with(ONE_LISTED));
+    Ok(())
+}
+
+/// What is written for this input, whose first request is read at 5,000 and whose others at 30,000.
+fn said_at_5_and_30_seconds<R: AllocGlobal + Threads + Sync, K: Keeper>(
+    rt: &R,
+    served: &mut ServedFarm<K, SlotCache<Page>>,
+    input: &str,
+) -> Result<String, Fail> {
+    let mut clock = clock_from_5_to_30_seconds(rt.alloc())?;
+    let mut wire = FarmWire::new(rt.alloc());
+    said_by(rt, served, &mut wire, &mut clock, input)
+}
+
+fn clock_from_5_to_30_seconds(alloc: Global) -> Result<MemClock, Fail> {
     let mut first = Vec::new(alloc);
     first.push(both(5_000))?;
-    let mut clock = MemClock::new(first, both(30_000));
-    let end = serve_by(rt, &mut served, &mut conn, &mut wire, &mut clock)?;
-    assert_eq!(rt; end, ConnEnd::Closed);
-    assert!(rt; written(alloc, &conn)?.as_str().ends_with(ONE_LISTED));
-    Ok(())
+    Ok(MemClock::new(first, both(30_000)))
 }
 
 #[test]

@@ -1,11 +1,13 @@
 // Messages that are sent and taken before a request, and what the second region then knows.
-use crate::setting::{conn_of, has_received, has_sent, serve_at, small_farm};
+use crate::setting::{has_received, has_sent, said_at, said_at_once, small_farm};
+use farm_core::Page;
 use purge_relay::{Deal, FarmWire, Wire};
 use revision_keeper::{Keeper, MemKeeper};
+use slot_cache::SlotCache;
 use std::process::Abort;
 use std::test::Fail;
 use std::thread::Threads;
-use wiki_serve::ConnEnd;
+use wiki_serve::ServedFarm;
 
 #[test]
 fn messages_are_sent_and_carried_before_the_next_request(rt: HostRuntime) -> Result<(), Fail> {
@@ -27,10 +29,7 @@ Host: wiki.example\r
 \r
 ";
     let mut served = small_farm(rt.alloc(), keeper)?;
-    let mut wire = FarmWire::new(rt.alloc());
-    let mut conn = conn_of(rt.alloc(), input.as_bytes(), 65_536)?;
-    let end = serve_at(rt, &mut served, &mut conn, &mut wire, 5_000)?;
-    assert_eq!(rt; end, ConnEnd::Closed);
+    said_at_once(rt, &mut served, input)?;
     assert_eq!(rt; served.farm.issued(), 2);
     has_sent(rt, &served, 2)?;
     has_received(rt, &served, true)
@@ -46,25 +45,28 @@ fn sends_what_was_left<R: AllocGlobal + Threads + Sync + Abort, K: Keeper + Drop
     keeper: K,
 ) -> Result<(), Fail> {
     let mut served = small_farm(rt.alloc(), keeper)?;
-    let mut wire = FarmWire::new(rt.alloc());
+    leaves_unsent(rt, &mut served)?;
+    let input = "GET /wiki/B HTTP/1.1\r\nHost: wiki.example\r\n\r\n";
+    said_at_once(rt, &mut served, input)?;
+    has_sent(rt, &served, 2)?;
+    has_received(rt, &served, true)
+}
+
+/// Its connection ends before there is a request whose housekeeping would send the edit's messages.
+fn leaves_unsent<R: AllocGlobal + Threads + Sync + Abort, K: Keeper>(
+    rt: &R,
+    served: &mut ServedFarm<K, SlotCache<Page>>,
+) -> Result<(), Fail> {
     let input = "\
 POST /edit HTTP/1.1\r
 Host: wiki.example\r
 Content-Length: 31\r
 \r
 title=A&base=0&token=k&text=one";
-    let mut conn = conn_of(rt.alloc(), input.as_bytes(), 65_536)?;
-    let end = serve_at(rt, &mut served, &mut conn, &mut wire, 5_000)?;
-    assert_eq!(rt; end, ConnEnd::Closed);
+    said_at_once(rt, served, input)?;
     assert_eq!(rt; served.farm.issued(), 2);
-    has_sent(rt, &served, 0)?;
-    has_received(rt, &served, false)?;
-    let input = b"GET /wiki/B HTTP/1.1\r\nHost: wiki.example\r\n\r\n";
-    let mut conn = conn_of(rt.alloc(), input, 65_536)?;
-    let end = serve_at(rt, &mut served, &mut conn, &mut wire, 5_000)?;
-    assert_eq!(rt; end, ConnEnd::Closed);
-    has_sent(rt, &served, 2)?;
-    has_received(rt, &served, true)
+    has_sent(rt, served, 0)?;
+    has_received(rt, served, false)
 }
 
 #[test]
@@ -97,9 +99,7 @@ Host: wiki.example\r
 \r
 ";
     let mut served = small_farm(rt.alloc(), keeper)?;
-    let mut conn = conn_of(rt.alloc(), input.as_bytes(), 65_536)?;
-    let end = serve_at(rt, &mut served, &mut conn, wire, 5_000)?;
-    assert_eq!(rt; end, ConnEnd::Closed);
+    said_at(rt, &mut served, wire, 5_000, input)?;
     has_sent(rt, &served, 2)?;
     has_received(rt, &served, true)
 }

@@ -1,9 +1,10 @@
 // Each fault that an edit may meet, at each place: what is written, how the connection ends, and what is saved.
 use crate::failing_wire::FailingWire;
 use crate::setting::{
-    READ, READING, SAVED, SAVING, conn_failing, conn_of, farm_of_slots, has_received, has_sent,
+    READ, READING, SAVED, SAVING, conn_failing, farm_of_slots, has_received, has_sent, said_at,
     serve_at, small_farm, written,
 };
+use farm_base::{Conn, MemConn};
 use farm_core::Page;
 use purge_relay::{Deal, FarmWire, Wire};
 use revision_keeper::{Keeper, MemKeeper};
@@ -47,18 +48,43 @@ fn see<R: AllocGlobal + Threads + Sync, K: Keeper>(
     input: &[u8],
     calls: Calls,
 ) -> Result<Seen, Fail> {
-    let alloc = rt.alloc();
-    let mut reads = Vec::new(alloc);
-    reads.push(calls.read)?;
-    let mut writes = Vec::new(alloc);
-    writes.push(calls.write)?;
-    let mut conn = conn_failing(alloc, input, calls.piece, reads, writes)?;
-    let mut wire = FarmWire::new(alloc);
-    let end = serve_at(rt, served, &mut conn, &mut wire, 5_000)?;
+    let mut conn = conn_by(rt.alloc(), input, calls)?;
+    let end = serve_once(rt, served, &mut conn)?;
+    seen_of(rt.alloc(), served, &conn, end)
+}
+
+fn conn_by(alloc: Global, input: &[u8], calls: Calls) -> Result<MemConn, Fail> {
+    let reads = list_of_one(alloc, calls.read)?;
+    let writes = list_of_one(alloc, calls.write)?;
+    conn_failing(alloc, input, calls.piece, reads, writes)
+}
+
+fn list_of_one(alloc: Global, number: u64) -> Result<Vec<u64>, Fail> {
+    let mut list = Vec::new(alloc);
+    list.push(number)?;
+    Ok(list)
+}
+
+fn serve_once<R: AllocGlobal + Threads + Sync, K: Keeper, X: Conn>(
+    rt: &R,
+    served: &mut ServedFarm<K, SlotCache<Page>>,
+    conn: &mut X,
+) -> Result<ConnEnd, Fail> {
+    let mut wire = FarmWire::new(rt.alloc());
+    serve_at(rt, served, conn, &mut wire, 5_000)
+}
+
+fn seen_of<K: Keeper>(
+    alloc: Global,
+    served: &mut ServedFarm<K, SlotCache<Page>>,
+    conn: &MemConn,
+    end: ConnEnd,
+) -> Result<Seen, Fail> {
+    let entries = served.farm.entries()?;
     Ok(Seen {
         end,
-        text: written(alloc, &conn)?,
-        entries: served.farm.entries()?,
+        text: written(alloc, conn)?,
+        entries,
         issued: served.farm.issued(),
     })
 }
@@ -196,15 +222,25 @@ fn leaves_a_part<R: AllocGlobal + Threads + Sync + Abort, K: Keeper + Drop>(
 ) -> Result<(), Fail> {
     let mut served = new_farm(rt.alloc(), keeper)?;
     let calls = writing(1, (part.len() as u64).saturating_add(1));
-    let seen = see(rt, &mut served, SAVING.as_bytes(), calls)?;
-    assert_seen(
-        rt,
-        seen,
-        ConnEnd::WriteFault,
-        str::from_utf8(part)?,
-        THE_EDIT,
-    )?;
-    let seen = see(rt, &mut served, SAVING.as_bytes(), SURE)?;
+    tells_part(rt, &mut served, calls, str::from_utf8(part)?)?;
+    tells_all(rt, &mut served)
+}
+
+fn tells_part<R: AllocGlobal + Threads + Sync + Abort, K: Keeper>(
+    rt: &R,
+    served: &mut ServedFarm<K, SlotCache<Page>>,
+    calls: Calls,
+    part: &str,
+) -> Result<(), Fail> {
+    let seen = see(rt, served, SAVING.as_bytes(), calls)?;
+    assert_seen(rt, seen, ConnEnd::WriteFault, part, THE_EDIT)
+}
+
+fn tells_all<R: AllocGlobal + Threads + Sync + Abort, K: Keeper>(
+    rt: &R,
+    served: &mut ServedFarm<K, SlotCache<Page>>,
+) -> Result<(), Fail> {
+    let seen = see(rt, served, SAVING.as_bytes(), SURE)?;
     assert_seen(rt, seen, ConnEnd::Closed, SAVED, THE_EDIT)
 }
 
@@ -218,10 +254,8 @@ fn tells_again<R: AllocGlobal + Threads + Sync + Abort, K: Keeper + Drop>(
     keeper: K,
 ) -> Result<(), Fail> {
     let mut served = small_farm(rt.alloc(), keeper)?;
-    let seen = see(rt, &mut served, SAVING.as_bytes(), writing(65_536, 1))?;
-    assert_seen(rt, seen, ConnEnd::WriteFault, "", THE_EDIT)?;
-    let seen = see(rt, &mut served, SAVING.as_bytes(), SURE)?;
-    assert_seen(rt, seen, ConnEnd::Closed, SAVED, THE_EDIT)
+    tells_part(rt, &mut served, writing(65_536, 1), "")?;
+    tells_all(rt, &mut served)
 }
 
 // How many bytes a call moves. With 7 the answer takes 52 writes, with more fewer.
@@ -266,9 +300,7 @@ store
 // The first append is the beat's, the second the edit's.
 #[test]
 fn an_append_that_fails_is_told(rt: HostRuntime) -> Result<(), Fail> {
-    let mut appends = Vec::new(rt.alloc());
-    appends.push(2)?;
-    let keeper = MemKeeper::failing(rt.alloc(), appends);
+    let keeper = MemKeeper::failing(rt.alloc(), list_of_one(rt.alloc(), 2)?);
     let seen = see_new(&rt, keeper, SAVING.as_bytes(), SURE)?;
     let beat_and_purge = Counts {
         entries: 1,
@@ -279,9 +311,7 @@ fn an_append_that_fails_is_told(rt: HostRuntime) -> Result<(), Fail> {
 
 #[test]
 fn an_edit_that_the_keeper_refused_may_come_again(rt: HostRuntime) -> Result<(), Fail> {
-    let mut appends = Vec::new(rt.alloc());
-    appends.push(2)?;
-    let keeper = MemKeeper::failing(rt.alloc(), appends);
+    let keeper = MemKeeper::failing(rt.alloc(), list_of_one(rt.alloc(), 2)?);
     let twice = format!(in rt.alloc(); "{SAVING}{SAVING}")?;
     let seen = see_new(&rt, keeper, twice.as_bytes(), SURE)?;
     let wanted = format!(in rt.alloc(); "{REFUSED}{SAVED}")?;
@@ -308,9 +338,7 @@ saved entry=1 revision=1 cookie=1@5
 
 #[test]
 fn a_beat_that_fails_is_not_told(rt: HostRuntime) -> Result<(), Fail> {
-    let mut appends = Vec::new(rt.alloc());
-    appends.push(1)?;
-    let keeper = MemKeeper::failing(rt.alloc(), appends);
+    let keeper = MemKeeper::failing(rt.alloc(), list_of_one(rt.alloc(), 1)?);
     let seen = see_new(&rt, keeper, SAVING.as_bytes(), SURE)?;
     let only_the_edit = Counts {
         entries: 1,
@@ -321,9 +349,7 @@ fn a_beat_that_fails_is_not_told(rt: HostRuntime) -> Result<(), Fail> {
 
 #[test]
 fn a_send_that_fails_leaves_the_messages_for_a_later_request(rt: HostRuntime) -> Result<(), Fail> {
-    let mut sends = Vec::new(rt.alloc());
-    sends.push(1)?;
-    let mut wire = FailingWire::new(rt.alloc(), sends);
+    let mut wire = FailingWire::new(rt.alloc(), list_of_one(rt.alloc(), 1)?);
     sends_later(&rt, MemKeeper::new(rt.alloc()), &mut wire)
 }
 
@@ -348,12 +374,19 @@ fn sends_later<R: AllocGlobal + Threads + Sync + Abort, K: Keeper + Drop, W: Wir
     saves_and_reads(rt, &mut served, wire)?;
     has_sent(rt, &served, 0)?;
     has_received(rt, &served, false)?;
-    let mut conn = conn_of(rt.alloc(), ELSEWHERE.as_bytes(), 65_536)?;
-    let end = serve_at(rt, &mut served, &mut conn, wire, 5_000)?;
-    assert_eq!(rt; written(rt.alloc(), &conn)?.as_str(), NO_PAGE);
-    assert_eq!(rt; end, ConnEnd::Closed);
+    asks_elsewhere(rt, &mut served, wire)?;
     has_sent(rt, &served, 2)?;
     has_received(rt, &served, true)
+}
+
+fn asks_elsewhere<R: AllocGlobal + Threads + Sync + Abort, K: Keeper, W: Wire>(
+    rt: &R,
+    served: &mut ServedFarm<K, SlotCache<Page>>,
+    wire: &mut W,
+) -> Result<(), Fail> {
+    let text = said_at(rt, served, wire, 5_000, ELSEWHERE)?;
+    assert_eq!(rt; text.as_str(), NO_PAGE);
+    Ok(())
 }
 
 // The edit and the view are answered as over a wire that never fails.
@@ -363,11 +396,9 @@ fn saves_and_reads<R: AllocGlobal + Threads + Sync + Abort, K: Keeper, W: Wire>(
     wire: &mut W,
 ) -> Result<(), Fail> {
     let input = format!(in rt.alloc(); "{SAVING}{READING}")?;
+    let text = said_at(rt, served, wire, 5_000, input.as_str())?;
     let wanted = format!(in rt.alloc(); "{SAVED}{READ}")?;
-    let mut conn = conn_of(rt.alloc(), input.as_bytes(), 65_536)?;
-    let end = serve_at(rt, served, &mut conn, wire, 5_000)?;
-    assert_eq!(rt; written(rt.alloc(), &conn)?.as_str(), wanted.as_str());
-    assert_eq!(rt; end, ConnEnd::Closed);
+    assert_eq!(rt; text.as_str(), wanted.as_str());
     Ok(())
 }
 

@@ -277,8 +277,41 @@ pub fn said_later<R: AllocGlobal + Threads + Sync, K: Keeper, W: Wire>(
     wire: &mut W,
     input: &str,
 ) -> Result<String, Fail> {
+    said_at(rt, served, wire, 30_000, input)
+}
+
+/// What is written for this input at 5,000, over a wire of its own.
+pub fn said_at_once<R: AllocGlobal + Threads + Sync, K: Keeper>(
+    rt: &R,
+    served: &mut ServedFarm<K, SlotCache<Page>>,
+    input: &str,
+) -> Result<String, Fail> {
+    let mut wire = FarmWire::new(rt.alloc());
+    said_at(rt, served, &mut wire, 5_000, input)
+}
+
+/// What is written for this input at this moment of both regions, over this wire.
+pub fn said_at<R: AllocGlobal + Threads + Sync, K: Keeper, W: Wire>(
+    rt: &R,
+    served: &mut ServedFarm<K, SlotCache<Page>>,
+    wire: &mut W,
+    now: u64,
+    input: &str,
+) -> Result<String, Fail> {
+    let mut clock = MemClock::new(Vec::new(rt.alloc()), both(now));
+    said_by(rt, served, wire, &mut clock, input)
+}
+
+/// What is written for this input by this clock, over this wire.
+pub fn said_by<R: AllocGlobal + Threads + Sync, K: Keeper, W: Wire, C: Clock>(
+    rt: &R,
+    served: &mut ServedFarm<K, SlotCache<Page>>,
+    wire: &mut W,
+    clock: &mut C,
+    input: &str,
+) -> Result<String, Fail> {
     let mut conn = conn_of(rt.alloc(), input.as_bytes(), 65_536)?;
-    match serve_at(rt, served, &mut conn, wire, 30_000)? {
+    match serve_by(rt, served, &mut conn, wire, clock)? {
         ConnEnd::Closed => written(rt.alloc(), &conn),
         _ => Err(Fail::new("the connection was not closed")),
     }
