@@ -5,18 +5,19 @@ use crate::table_fault::TableFault;
 use commit_feed::Entry;
 use sqlite::{Alter, Connection, Error, Transaction, params};
 
-/// Appends entry `n`.
+/// Appends entry `n`, and answers the row of its title if it is a commit. The row may be known before.
 pub(crate) fn append<S: Alter>(
     conn: &mut Connection<S>,
     n: i64,
     entry: &Entry,
-) -> Result<(), TableFault> {
+    known: Option<i64>,
+) -> Result<Option<i64>, TableFault> {
     let stamp = stored_stamp(entry.stamp())?;
     let mut tx = begin(conn)?;
     put_entry(&mut tx, n, stamp)?;
-    put_rest(&mut tx, n, entry)?;
+    let title = put_rest(&mut tx, n, entry, known)?;
     tx.commit()?;
-    Ok(())
+    Ok(title)
 }
 
 /// A transaction, if none is open.
@@ -34,14 +35,16 @@ fn put_entry<S: Alter>(tx: &mut Transaction<'_, S>, n: i64, stamp: i64) -> Resul
     )
 }
 
-/// Writes what an entry has beside its number and stamp, which is nothing for a beat.
+/// Writes what an entry has beside its number and stamp, which is nothing for a beat. Answers the row of a commit's
+/// title, which may be known before.
 pub(crate) fn put_rest<S: Alter>(
     tx: &mut Transaction<'_, S>,
     n: i64,
     entry: &Entry,
-) -> Result<(), TableFault> {
+    known: Option<i64>,
+) -> Result<Option<i64>, TableFault> {
     match entry {
-        Entry::Beat { .. } => Ok(()),
+        Entry::Beat { .. } => Ok(None),
         Entry::Commit {
             purge,
             title,
@@ -54,10 +57,11 @@ pub(crate) fn put_rest<S: Alter>(
             ..
         } => {
             let digits = client.digits();
+            let row = put_title(tx, n, title.text(), *revision, known)?;
             let change = ChangeRow {
                 n,
                 purge: stored(*purge)?,
-                title: put_title(tx, n, title.text(), *revision)?,
+                title: row,
                 revision: stored(*revision)?,
                 client: digits_text(&digits)?,
                 index: stored(*index)?,
@@ -66,7 +70,7 @@ pub(crate) fn put_rest<S: Alter>(
                 body: text.text(),
             };
             put_change(tx, &change)?;
-            Ok(())
+            Ok(Some(row))
         }
     }
 }
@@ -77,10 +81,14 @@ fn put_title<S: Alter>(
     n: i64,
     title: &str,
     revision: u64,
+    known: Option<i64>,
 ) -> Result<i64, TableFault> {
     if revision == 1 {
         add_title(tx, n, title)?;
         return Ok(n);
+    }
+    if let Some(row) = known {
+        return Ok(row);
     }
     let row = tx.query_row(TITLE_ROW, params![title])?;
     stored(number_at(&row, 0)?)

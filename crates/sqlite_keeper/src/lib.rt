@@ -10,6 +10,9 @@
 //! A new file gets the tables of version 2. Those of version 1, which wrote a title into each commit, are brought over
 //! when the keeper is made ready, by one transaction: after a refusal the file is of version 1 as before.
 //!
+//! An edit asks the same before it begins and when it is committed, and each replica asks for the entry that came last.
+//! So the last answer of each kind is remembered, and what an append makes of it, and the database is asked once.
+//!
 //! The history is not exposed. What the answers are is shown by tests, beside `MemKeeper` on the same calls; proved are
 //! their bounds, the counts, and what is answered if the database could not be opened. Who opens the file is left to
 //! others, as is closing it.
@@ -19,6 +22,7 @@
 #![tactic(auto)]
 
 mod appends;
+mod last_answers;
 mod questions;
 mod rows;
 mod schema;

@@ -4,7 +4,8 @@ ghost use Rattle.std.specs.Prelude.{◌<◌, ◌^◌, IfOk, IfSome};
 ghost use Rattle.commit_feed.specs.AsModel.{entry_of};
 ghost use Rattle.revision_keeper.specs.Bounds.{IsSmall, AreSmall};
 
-use crate::rows::{commit_in, number_at, stamp_at, stored, writes_in};
+use crate::last_answers::LastCommit;
+use crate::rows::{commit_in, number_at, number_of, stamp_at, stored, writes_in};
 use crate::table_fault::TableFault;
 use commit_feed::{Entry, Writes};
 use farm_base::Moment;
@@ -63,14 +64,11 @@ fn change_row<S: Alter>(conn: &mut Connection<S>, n: i64) -> Result<Option<Row>,
     )
 }
 
-/// The number of the last commit on the title among the first `upto` entries.
-pub(crate) fn latest<S: Alter>(
+/// The last commit on the title.
+pub(crate) fn last_on<S: Alter>(
     conn: &mut Connection<S>,
     title: &Title,
-    upto: u64,
-) -> Result<Option<u64>, TableFault>
-    ensures { IfOk result (λ found. IfSome found (λ n. n < 2 ^ 63)) }
-{
+) -> Result<Option<LastCommit>, TableFault> {
     let Some(row) = first_row(conn, TITLE_ROW, params![title.text()])? else {
         return Ok(None);
     };
@@ -78,11 +76,26 @@ pub(crate) fn latest<S: Alter>(
     let Some(row) = last_change(conn, title)? else {
         return Ok(None);
     };
-    let n = number_at(&row, 0)?;
+    Ok(Some(LastCommit {
+        title,
+        n: row.get(0)?,
+        revision: row.get(1)?,
+    }))
+}
+
+/// The number of the last commit on a title among the first `upto` entries, if this is the last of all.
+pub(crate) fn latest<S: Alter>(
+    conn: &mut Connection<S>,
+    last: LastCommit,
+    upto: u64,
+) -> Result<Option<u64>, TableFault>
+    ensures { IfOk result (λ found. IfSome found (λ n. n < 2 ^ 63)) }
+{
+    let n = number_of(last.n)?;
     if n <= upto {
         return Ok(Some(n));
     }
-    earlier(conn, title, upto, number_at(&row, 1)?)
+    earlier(conn, last.title, upto, number_of(last.revision)?)
 }
 
 fn last_change<S: Alter>(conn: &mut Connection<S>, title: i64) -> Result<Option<Row>, TableFault> {

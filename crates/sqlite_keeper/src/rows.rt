@@ -1,5 +1,5 @@
 // What stands in a row, each value tested as it comes in, and what may be written into one.
-ghost use Rattle.std.specs.Prelude.{◌≤◌, ◌<◌, ◌^◌, IfOk};
+ghost use Rattle.std.specs.Prelude.{◌≤◌, ◌<◌, ◌^◌, IfOk, IfSome};
 ghost use Rattle.wiki_model.specs.Limits.{greatest_moment};
 ghost use Rattle.commit_feed.specs.AsModel.{entry_of};
 ghost use Rattle.revision_keeper.specs.Bounds.{IsSmall, AreSmall};
@@ -52,6 +52,76 @@ pub(crate) fn stamp_at(row: &Row, at: usize) -> Result<Moment, TableFault>
         return Err(TableFault::Refused);
     }
     Ok(Moment(n))
+}
+
+// What is answered again is tested too.
+
+/// A number, if it is below 2^63.
+fn small(n: u64) -> Result<u64, TableFault>
+    ensures { IfOk result (λ k. k < 2 ^ 63) }
+{
+    number_of(stored(n)?)
+}
+
+fn small_stamp(stamp: Moment) -> Result<Moment, TableFault>
+    ensures { IfOk result (λ stamp. stamp ≤ greatest_moment) }
+{
+    if MOMENT_MAX < stamp.0 {
+        return Err(TableFault::Refused);
+    }
+    Ok(stamp)
+}
+
+/// A number that may be missing, if it is below 2^63.
+pub(crate) fn checked_number(found: Option<u64>) -> Result<Option<u64>, TableFault>
+    ensures { IfOk result (λ found. IfSome found (λ n. n < 2 ^ 63)) }
+{
+    match found {
+        Some(n) => Ok(Some(small(n)?)),
+        None => Ok(None),
+    }
+}
+
+/// What a client has committed, if its numbers are within their limits.
+pub(crate) fn checked_writes(writes: Writes) -> Result<Writes, TableFault>
+    ensures { IfOk result AreSmall }
+{
+    let count = small(writes.count)?;
+    let last = small(writes.last)?;
+    let stamp = small_stamp(writes.stamp)?;
+    Ok(Writes { count, last, stamp })
+}
+
+/// An entry, if its numbers are within their limits.
+pub(crate) fn checked_entry(entry: Entry) -> Result<Entry, TableFault>
+    ensures { IfOk result (λ entry. IsSmall (entry_of entry)) }
+{
+    match entry {
+        Entry::Beat { stamp } => Ok(Entry::Beat {
+            stamp: small_stamp(stamp)?,
+        }),
+        Entry::Commit {
+            stamp,
+            purge,
+            title,
+            revision,
+            client,
+            index,
+            token,
+            base,
+            text,
+        } => Ok(Entry::Commit {
+            stamp: small_stamp(stamp)?,
+            purge,
+            title,
+            revision: small(revision)?,
+            client,
+            index: small(index)?,
+            token,
+            base,
+            text,
+        }),
+    }
 }
 
 /// The commit of a row of purge, title, revision, client, index, token, base and body.

@@ -121,6 +121,6 @@ fn copy_row<S: Alter>(
     let n = stored(number_at(row, 8)?)?;
     // The stamp is not copied: it stands in `entry`, which stays.
     let entry = commit_in(alloc, row, Moment(0))?;
-    put_rest(tx, n, &entry)?;
+    put_rest(tx, n, &entry, None)?;
     Ok(n)
 }

@@ -163,7 +163,7 @@ impl<S: Alter + Drop> Keeper for SqliteKeeper<S> {
         ensures cause { HasFault self.old.faults self.new.faults result }
     {
         let found = match &mut self.opened {
-            Ok(tables) => tables.append(&entry),
+            Ok(tables) => tables.append(entry),
             Err(error) => Err(TableFault::from(*error)),
         };
         answer(&mut self.faults, found)
