@@ -4,6 +4,7 @@ use farm_base::{
     Readings, Sink, Source, write_both,
 };
 use std::alloc::Global;
+use std::process::Abort;
 use std::test::Fail;
 
 // A connection over a text, of which each call moves one byte.
@@ -21,6 +22,11 @@ fn byte_by_byte(alloc: Global, text: &str, reads: &[u64], writes: &[u64]) -> Res
 #[test]
 fn a_connection_moves_a_byte_at_a_time(rt: HostRuntime) -> Result<(), Fail> {
     let mut conn = byte_by_byte(rt.alloc(), "ab", &[2], &[1])?;
+    moves_bytes(&rt, &mut conn);
+    Ok(())
+}
+
+fn moves_bytes(rt: &impl Abort, conn: &mut MemConn) {
     let mut buf = [0u8; 4];
     assert_eq!(rt; conn.peer(), "10.0.0.7");
     assert_eq!(rt; conn.read(&mut buf), Ok(1));
@@ -32,20 +38,24 @@ fn a_connection_moves_a_byte_at_a_time(rt: HostRuntime) -> Result<(), Fail> {
     assert_eq!(rt; conn.write(b"two"), Ok(1));
     assert_eq!(rt; conn.read(&mut buf), Ok(0));
     assert_eq!(rt; conn.written(), b"t".as_slice());
-    Ok(())
 }
 
 #[test]
 fn two_pieces_are_written_whole_or_up_to_a_failed_write(rt: HostRuntime) -> Result<(), Fail> {
-    let alloc = rt.alloc();
-    let mut conn = byte_by_byte(alloc, "", &[], &[])?;
-    assert!(rt; write_both(&mut conn, b"head", b"page").is_ok());
-    assert!(rt; write_both(&mut conn, b"", b"end").is_ok());
-    assert_eq!(rt; conn.written(), b"headpageend".as_slice());
-    let mut conn = byte_by_byte(alloc, "", &[], &[6])?;
-    assert!(rt; write_both(&mut conn, b"head", b"page").is_err());
-    assert_eq!(rt; conn.written(), b"headp".as_slice());
+    writes_whole(&rt, &mut byte_by_byte(rt.alloc(), "", &[], &[])?);
+    writes_up_to_the_sixth(&rt, &mut byte_by_byte(rt.alloc(), "", &[], &[6])?);
     Ok(())
+}
+
+fn writes_whole(rt: &impl Abort, conn: &mut MemConn) {
+    assert!(rt; write_both(conn, b"head", b"page").is_ok());
+    assert!(rt; write_both(conn, b"", b"end").is_ok());
+    assert_eq!(rt; conn.written(), b"headpageend".as_slice());
+}
+
+fn writes_up_to_the_sixth(rt: &impl Abort, conn: &mut MemConn) {
+    assert!(rt; write_both(conn, b"head", b"page").is_err());
+    assert_eq!(rt; conn.written(), b"headp".as_slice());
 }
 
 // A door over two connections, of which these calls fail.
@@ -75,12 +85,16 @@ fn has_back(door: &MemDoor, place: usize, byte: u8) -> bool {
 #[test]
 fn a_door_gives_its_connections_in_order(rt: HostRuntime) -> Result<(), Fail> {
     let mut door = two_at_a_door(rt.alloc(), &[2])?;
-    assert_eq!(rt; next_byte(&mut door)?, b'a');
+    gives_both(&rt, &mut door)
+}
+
+fn gives_both(rt: &impl Abort, door: &mut MemDoor) -> Result<(), Fail> {
+    assert_eq!(rt; next_byte(door)?, b'a');
     assert!(rt; door.next().is_err());
-    assert_eq!(rt; next_byte(&mut door)?, b'b');
+    assert_eq!(rt; next_byte(door)?, b'b');
     assert!(rt; door.next()?.is_none());
-    assert!(rt; has_back(&door, 0, b'a'));
-    assert!(rt; has_back(&door, 1, b'b'));
+    assert!(rt; has_back(door, 0, b'a'));
+    assert!(rt; has_back(door, 1, b'b'));
     Ok(())
 }
 

@@ -4,6 +4,7 @@ use farm_base::SureSource;
 use http_desk::{Call, Incoming, Request, read_request};
 use http_reply::{Reply, Status, answer_bytes};
 use std::alloc::Global;
+use std::process::Abort;
 use std::test::Fail;
 use sticky_routes::{Cookies, PosCookie, no_edge_value, position_value, use_master_value};
 use wiki_titles::ClientId;
@@ -67,16 +68,21 @@ Connection: keep-alive\r
 
 // The parts of a request that every call has, in a line.
 fn line_of(alloc: Global, request: &Request) -> Result<String, Fail> {
-    let mut line = String::from_str(alloc, request.host.as_str())?;
+    let mut line = String::new(alloc);
+    push_request(alloc, &mut line, request)?;
+    Ok(line)
+}
+
+fn push_request(alloc: Global, line: &mut String, request: &Request) -> Result<(), Fail> {
+    line.push_str(request.host.as_str())?;
     line.push_str(" [")?;
     line.push_str(request.agent.as_str())?;
     line.push_str("]")?;
-    push_cookies(alloc, &mut line, request.cookies)?;
+    push_cookies(alloc, line, request.cookies)?;
     if request.close {
         line.push_str(" close")?;
     }
-    push_call(&mut line, &request.call)?;
-    Ok(line)
+    push_call(line, &request.call)
 }
 
 fn push_cookies(alloc: Global, line: &mut String, cookies: Cookies) -> Result<(), Fail> {
@@ -136,24 +142,35 @@ fn read_line(alloc: Global, incoming: &Incoming) -> Result<String, Fail> {
 
 #[test]
 fn a_form_and_then_a_page_come_over_one_connection(rt: HostRuntime) -> Result<(), Fail> {
-    let alloc = rt.alloc();
-    let mut input = SAVING.as_bytes().to_vec(alloc)?;
-    input.extend_from_slice(READING.as_bytes())?;
-    let mut source = SureSource::new(input);
+    let input = format!(in rt.alloc(); "{SAVING}{READING}")?;
+    let mut source = SureSource::new(input.as_bytes().to_vec(rt.alloc())?);
+    reads_form_and_page(&rt, rt.alloc(), &mut source)
+}
+
+fn reads_form_and_page(
+    rt: &impl Abort,
+    alloc: Global,
+    source: &mut SureSource,
+) -> Result<(), Fail> {
     let mut kept = Vec::new(alloc);
-    let saving = read_request(alloc, &mut source, &mut kept);
+    let saving = next_line(alloc, source, &mut kept)?;
     assert_eq!(rt;
-        read_line(alloc, &saving)?.as_str(),
+        saving.as_str(),
         "wiki.example [] position=1@5#00000000000000000000000000000001 edit Café menu k1 one"
     );
-    let reading = read_request(alloc, &mut source, &mut kept);
+    let reading = next_line(alloc, source, &mut kept)?;
     assert_eq!(rt;
-        read_line(alloc, &reading)?.as_str(),
+        reading.as_str(),
         "wiki.example [Browser/1.0] position=1@5#00000000000000000000000000000001 home page Café menu"
     );
-    let end = read_request(alloc, &mut source, &mut kept);
-    assert_eq!(rt; read_line(alloc, &end)?.as_str(), "closed");
+    let end = next_line(alloc, source, &mut kept)?;
+    assert_eq!(rt; end.as_str(), "closed");
     Ok(())
+}
+
+// What is read next, in a line.
+fn next_line(alloc: Global, source: &mut SureSource, kept: &mut Vec<u8>) -> Result<String, Fail> {
+    read_line(alloc, &read_request(alloc, source, kept))
 }
 
 // One more field of a response.
@@ -179,23 +196,37 @@ fn a_saved_edit_is_answered_with_its_cookies(rt: HostRuntime) -> Result<(), Fail
         client: ClientId::number(1),
     };
     let position = position_value(alloc, &cookie)?;
+    let reply = saved_reply(alloc, position.as_str())?;
+    assert!(rt; answer_bytes(alloc, &reply)?.as_slice() == SAVED.as_bytes());
+    Ok(())
+}
+
+// The response to the saved edit, with this position.
+fn saved_reply(alloc: Global, position: &str) -> Result<Reply, Fail> {
+    let body = b"saved entry=2 revision=1 cookie=1@5\n"
+        .as_slice()
+        .to_vec(alloc)?;
     let mut lines = Vec::new(alloc);
-    push_line(alloc, &mut lines, "Location", "/wiki/Caf%C3%A9_menu")?;
-    push_line(alloc, &mut lines, "Set-Cookie", position.as_str())?;
-    push_line(alloc, &mut lines, "Set-Cookie", use_master_value())?;
-    push_line(alloc, &mut lines, "Set-Cookie", no_edge_value())?;
-    let reply = Reply {
+    push_saved(alloc, &mut lines, position)?;
+    Ok(Reply {
         status: Status::SeeOther,
         html: false,
-        body: b"saved entry=2 revision=1 cookie=1@5\n"
-            .as_slice()
-            .to_vec(alloc)?,
+        body,
         lines,
         head: false,
         close: false,
-    };
-    assert!(rt; answer_bytes(alloc, &reply)?.as_slice() == SAVED.as_bytes());
-    Ok(())
+    })
+}
+
+fn push_saved(
+    alloc: Global,
+    lines: &mut Vec<(String, String)>,
+    position: &str,
+) -> Result<(), Fail> {
+    push_line(alloc, lines, "Location", "/wiki/Caf%C3%A9_menu")?;
+    push_line(alloc, lines, "Set-Cookie", position)?;
+    push_line(alloc, lines, "Set-Cookie", use_master_value())?;
+    push_line(alloc, lines, "Set-Cookie", no_edge_value())
 }
 
 const HTML: &str = "\
@@ -207,18 +238,23 @@ const HTML: &str = "\
 
 // The response with this page.
 fn page_reply(alloc: Global, head: bool) -> Result<Reply, Fail> {
+    let body = HTML.as_bytes().to_vec(alloc)?;
     let mut lines = Vec::new(alloc);
-    push_line(alloc, &mut lines, "Wiki-Source", "2")?;
-    push_line(alloc, &mut lines, "Wiki-From", "replica:0")?;
-    push_line(alloc, &mut lines, "Wiki-Lagged", "0")?;
+    push_source(alloc, &mut lines)?;
     Ok(Reply {
         status: Status::Ok,
         html: true,
-        body: HTML.as_bytes().to_vec(alloc)?,
+        body,
         lines,
         head,
         close: false,
     })
+}
+
+fn push_source(alloc: Global, lines: &mut Vec<(String, String)>) -> Result<(), Fail> {
+    push_line(alloc, lines, "Wiki-Source", "2")?;
+    push_line(alloc, lines, "Wiki-From", "replica:0")?;
+    push_line(alloc, lines, "Wiki-Lagged", "0")
 }
 
 #[test]

@@ -2,7 +2,7 @@
 use crate::setting::{arrive, begin, both, closed, edit_of_a, once, saves, small_farm};
 use farm_base::{Moment, Region};
 use farm_core::{Farm, Page};
-use revision_keeper::Keeper;
+use revision_keeper::{Keeper, MemKeeper};
 use std::alloc::Global;
 use std::process::Abort;
 use std::test::Fail;
@@ -20,15 +20,34 @@ fn begins<K: Keeper, S: RegionStore<Page>>(
     alloc: Global,
     farm: &mut Farm<K, S>,
 ) -> Result<(), Fail> {
-    let title = Title::parse(alloc, "A")?;
-    assert!(rt; arrive(farm, both(20_000), 1, edit_of_a(alloc)?)?.is_none());
-    assert!(rt; begin(farm, both(20_000), 1)?.is_none());
+    assert!(rt; arrives(alloc, farm)? && begins_at_once(farm)?);
     assert!(rt; farm.is_open(1) && !farm.is_open(2));
-    assert!(rt; farm.pending(Region::Home, &title) && !farm.pending(Region::West, &title));
+    is_pending_at_home(rt, alloc, farm)?;
     assert_eq!(rt; farm.issued(), 1);
     assert!(rt; farm.message(1).is_some() && farm.message(2).is_none());
     assert_eq!(rt; farm.receipt(1, Region::Home), Some(once(20_000)));
     assert!(rt; farm.receipt(1, Region::West).is_none());
+    Ok(())
+}
+
+fn arrives<K: Keeper, S: RegionStore<Page>>(
+    alloc: Global,
+    farm: &mut Farm<K, S>,
+) -> Result<bool, Fail> {
+    Ok(arrive(farm, both(20_000), 1, edit_of_a(alloc)?)?.is_none())
+}
+
+fn begins_at_once<K: Keeper, S: RegionStore<Page>>(farm: &mut Farm<K, S>) -> Result<bool, Fail> {
+    Ok(begin(farm, both(20_000), 1)?.is_none())
+}
+
+fn is_pending_at_home<K: Keeper, S: RegionStore<Page>>(
+    rt: &impl Abort,
+    alloc: Global,
+    farm: &Farm<K, S>,
+) -> Result<(), Fail> {
+    let title = Title::parse(alloc, "A")?;
+    assert!(rt; farm.pending(Region::Home, &title) && !farm.pending(Region::West, &title));
     Ok(())
 }
 
@@ -57,10 +76,18 @@ fn sends_and_drops<K: Keeper, S: RegionStore<Page>>(
 
 #[test]
 fn entries_are_told_and_the_keeper_is_handed_back(rt: HostRuntime) -> Result<(), Fail> {
-    let mut farm = small_farm(rt.alloc())?;
-    tells_entries(&rt, rt.alloc(), &mut farm)?;
-    let mut keeper = closed(farm)?;
-    assert_eq!(rt; keeper.len()?, 2);
+    let mut keeper = told_and_closed(&rt, rt.alloc())?;
+    has_entries(&rt, &mut keeper, 2)
+}
+
+fn told_and_closed(rt: &impl Abort, alloc: Global) -> Result<MemKeeper, Fail> {
+    let mut farm = small_farm(alloc)?;
+    tells_entries(rt, alloc, &mut farm)?;
+    closed(farm)
+}
+
+fn has_entries<K: Keeper>(rt: &impl Abort, keeper: &mut K, count: u64) -> Result<(), Fail> {
+    assert_eq!(rt; keeper.len()?, count);
     Ok(())
 }
 
@@ -75,9 +102,17 @@ fn tells_entries<K: Keeper, S: RegionStore<Page>>(
     assert!(rt; farm.beat(both(30_000)).is_none());
     assert_eq!(rt; farm.entries()?, 2);
     assert_eq!(rt; farm.last_beat(), Some(Moment(30_000)));
-    assert!(rt; farm.entry(1)?.is_some() && farm.entry(2)?.is_some());
-    assert!(rt; farm.entry(0)?.is_none() && farm.entry(3)?.is_none());
+    for (number, is_there) in [(0, false), (1, true), (2, true), (3, false)] {
+        assert_eq!(rt; has_entry(farm, number)?, is_there);
+    }
     Ok(())
+}
+
+fn has_entry<K: Keeper, S: RegionStore<Page>>(
+    farm: &mut Farm<K, S>,
+    number: u64,
+) -> Result<bool, Fail> {
+    Ok(farm.entry(number)?.is_some())
 }
 
 #[test]

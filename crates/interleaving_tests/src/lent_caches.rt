@@ -10,12 +10,12 @@ use wan_cache::MapCache;
 #[test]
 fn a_cache_is_given_back_with_what_its_round_received(rt: HostRuntime) -> Result<(), Fail> {
     let mut farm = small_farm(rt.alloc())?;
-    saves(rt.alloc(), &mut farm, both(20_000))?;
     lends(&rt, rt.alloc(), &mut farm)
 }
 
 // An empty cache is given back in place of the one that was lent.
 fn lends(rt: &impl Abort, alloc: Global, farm: &mut TestFarm) -> Result<(), Fail> {
+    saves(alloc, farm, both(20_000))?;
     if !farm.is_whole() {
         return Err(Fail::new("a cache is lent"));
     }

@@ -1,7 +1,7 @@
 // A farm over a history that another one left.
 use crate::setting::{arrive, both, closed, farm_over, said, saves, small_farm, view_of_a};
 use farm_core::{Farm, Page};
-use revision_keeper::Keeper;
+use revision_keeper::{Keeper, MemKeeper};
 use std::alloc::Global;
 use std::process::Abort;
 use std::test::Fail;
@@ -10,10 +10,15 @@ use wan_cache::RegionStore;
 #[test]
 fn a_farm_knows_the_young_commits_of_its_history(rt: HostRuntime) -> Result<(), Fail> {
     let alloc = rt.alloc();
+    let mut farm = farm_over(alloc, keeper_of_one(alloc)?, both(6_000))?;
+    knows_the_position(&rt, alloc, &mut farm)
+}
+
+// A keeper of one commit, of `A` at 5,000.
+fn keeper_of_one(alloc: Global) -> Result<MemKeeper, Fail> {
     let mut farm = small_farm(alloc)?;
     saves(alloc, &mut farm, both(5_000))?;
-    let mut farm = farm_over(alloc, closed(farm)?, both(6_000))?;
-    knows_the_position(&rt, alloc, &mut farm)
+    closed(farm)
 }
 
 // when the client of the commit views its page, and what it is told; its position is known for a minute

@@ -93,10 +93,19 @@ fn carries<K: Keeper, S: RegionStore<Page>>(
         title: Title::parse(alloc, "A")?,
         issued: Moment(20_000),
     };
-    let refused = said(alloc, carry(farm, both(20_500), 2, Some(&body))?)?;
+    carries_by(rt, alloc, farm, &body)
+}
+
+fn carries_by<K: Keeper, S: RegionStore<Page>>(
+    rt: &impl Abort,
+    alloc: Global,
+    farm: &mut Farm<K, S>,
+    body: &Body,
+) -> Result<(), Fail> {
+    let refused = said(alloc, carry(farm, both(20_500), 2, Some(body))?)?;
     assert_eq!(rt; refused.as_str(), "1 unknown message=2\n");
     assert!(rt; farm.receipt(1, Region::West).is_none());
-    assert!(rt; carry(farm, both(21_000), 1, Some(&body))?.is_none());
+    assert!(rt; carry(farm, both(21_000), 1, Some(body))?.is_none());
     assert_eq!(rt; farm.receipt(1, Region::West), Some(once(21_000)));
     assert!(rt; carry(farm, both(22_000), 2, None)?.is_none());
     Ok(())

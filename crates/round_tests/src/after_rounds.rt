@@ -1,5 +1,5 @@
 // What a round leaves in the cache for later rounds.
-use crate::setting::{farm_of_three, heads_of, jobs_of, lines_of, west_round};
+use crate::setting::{farm_of_three, heads_at, lines_at};
 use farm_core::{Farm, Page};
 use region_round::OpenGate;
 use revision_keeper::Keeper;
@@ -28,12 +28,10 @@ fn hits<K: Keeper, R: Threads + Sync + Abort>(
     alloc: Global,
     farm: &mut Farm<K, SlotCache<Page>>,
 ) -> Result<(), Fail> {
-    let first = jobs_of(alloc, &["A"])?;
-    west_round(rt, alloc, farm, first, 21_000, &OpenGate)?;
-    let second = jobs_of(alloc, &["A", "B"])?;
-    let answers = west_round(rt, alloc, farm, second, 22_000, &OpenGate)?;
+    heads_at(rt, alloc, farm, &["A"], 21_000, &OpenGate)?;
+    let lines = lines_at(rt, alloc, farm, &["A", "B"], 22_000)?;
     assert_eq!(rt;
-        lines_of(alloc, answers.as_slice())?.as_str(),
+        lines.as_str(),
         "\
 1 ok source=3 from=hit lagged=0 bytes=55
 <!DOCTYPE html>
@@ -64,18 +62,15 @@ fn holds_off<K: Keeper, R: Threads + Sync + Abort>(
     alloc: Global,
     farm: &mut Farm<K, SlotCache<Page>>,
 ) -> Result<(), Fail> {
-    let first = jobs_of(alloc, &["1"])?;
-    west_round(rt, alloc, farm, first, 21_000, &OpenGate)?;
-    let held = jobs_of(alloc, &["A"])?;
-    let answers = west_round(rt, alloc, farm, held, 31_999, &OpenGate)?;
+    heads_at(rt, alloc, farm, &["1"], 21_000, &OpenGate)?;
+    let held = heads_at(rt, alloc, farm, &["A"], 31_999, &OpenGate)?;
     assert_eq!(rt;
-        heads_of(alloc, answers.as_slice())?.as_str(),
+        held.as_str(),
         "A 1 ok source=3 from=replica:0 put=held lagged=1 bytes=55\n"
     );
-    let free = jobs_of(alloc, &["A"])?;
-    let answers = west_round(rt, alloc, farm, free, 32_000, &OpenGate)?;
+    let free = heads_at(rt, alloc, farm, &["A"], 32_000, &OpenGate)?;
     assert_eq!(rt;
-        heads_of(alloc, answers.as_slice())?.as_str(),
+        free.as_str(),
         "A 1 ok source=3 from=replica:0 put=lagged lagged=1 bytes=55\n"
     );
     Ok(())

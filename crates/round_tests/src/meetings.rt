@@ -1,5 +1,5 @@
 // Jobs that can only end well if they are done side by side.
-use crate::setting::{farm_of_three, heads_of, jobs_of, west_round};
+use crate::setting::{farm_of_three, heads_at};
 use farm_core::{Farm, Page};
 use region_round::Gate;
 use revision_keeper::Keeper;
@@ -66,11 +66,10 @@ fn meets<K: Keeper, R: Threads + Sync + Abort>(
         second: AtomicBool::new(false),
         met: AtomicU64::new(0),
     };
-    let jobs = jobs_of(alloc, &["A", "B"])?;
-    let answers = west_round(rt, alloc, farm, jobs, 21_000, &gate)?;
+    let heads = heads_at(rt, alloc, farm, &["A", "B"], 21_000, &gate)?;
     assert_eq!(rt; gate.met.load(SeqCst), 2);
     assert_eq!(rt;
-        heads_of(alloc, answers.as_slice())?.as_str(),
+        heads.as_str(),
         "\
 A 1 ok source=3 from=replica:0 put=whole lagged=0 bytes=55
 B 2 ok source=3 from=replica:0 put=whole lagged=0 bytes=55

@@ -1,5 +1,5 @@
 // Rounds of views and receipts, by one worker and by several.
-use crate::setting::{empty_farm, farm_of_three, heads_of, jobs_of, once, west_round};
+use crate::setting::{empty_farm, farm_of_three, heads_at, lines_at, once};
 use farm_base::Region;
 use farm_core::{Farm, Page};
 use region_round::OpenGate;
@@ -58,9 +58,8 @@ fn does_sixteen<K: Keeper, R: Threads + Sync + Abort>(
     alloc: Global,
     farm: &mut Farm<K, SlotCache<Page>>,
 ) -> Result<(), Fail> {
-    let jobs = jobs_of(alloc, &JOBS)?;
-    let answers = west_round(rt, alloc, farm, jobs, 21_000, &OpenGate)?;
-    assert_eq!(rt; heads_of(alloc, answers.as_slice())?.as_str(), ANSWERS);
+    let heads = heads_at(rt, alloc, farm, &JOBS, 21_000, &OpenGate)?;
+    assert_eq!(rt; heads.as_str(), ANSWERS);
     received_three(rt, farm)
 }
 
@@ -88,8 +87,8 @@ fn does_nothing<K: Keeper, R: Threads + Sync + Abort>(
     alloc: Global,
     farm: &mut Farm<K, SlotCache<Page>>,
 ) -> Result<(), Fail> {
-    let answers = west_round(rt, alloc, farm, Vec::new(alloc), 21_000, &OpenGate)?;
-    assert_eq!(rt; answers.len(), 0);
+    let lines = lines_at(rt, alloc, farm, &[], 21_000)?;
+    assert_eq!(rt; lines.as_str(), "");
     assert!(rt; farm.is_whole());
     Ok(())
 }
@@ -106,8 +105,7 @@ fn lacks_memory<K: Keeper, R: Threads + Sync + Abort>(
     alloc: Global,
     farm: &mut Farm<K, SlotCache<Page>>,
 ) -> Result<(), Fail> {
-    let jobs = jobs_of(alloc, &["A"])?;
-    let answers = west_round(rt, alloc, farm, jobs, 21_000, &OpenGate)?;
-    assert_eq!(rt; heads_of(alloc, answers.as_slice())?.as_str(), "1 memory\n");
+    let heads = heads_at(rt, alloc, farm, &["A"], 21_000, &OpenGate)?;
+    assert_eq!(rt; heads.as_str(), "1 memory\n");
     Ok(())
 }

@@ -4,7 +4,7 @@ use edit_core::EditAsk;
 use farm_base::{BOUND_MAX, Moment, Readings, Region};
 use farm_core::{Answer, Asked, Farm, Page};
 use purge_relay::Receipt;
-use region_round::{Gate, JOBS_MAX, Job, RoundAsk, ViewJob, are_proper, round};
+use region_round::{Gate, JOBS_MAX, Job, OpenGate, RoundAsk, ViewJob, are_proper, round};
 use revision_keeper::{Keeper, MemKeeper};
 use slot_cache::SlotCache;
 use std::alloc::Global;
@@ -124,7 +124,7 @@ fn apply<K: Keeper, S: RegionStore<Page>>(farm: &mut Farm<K, S>, count: u32) -> 
 }
 
 /// Jobs as words: a title is a view that needs the first entry, and a number the receipt of the purge of that number.
-pub fn jobs_of(alloc: Global, words: &[&str]) -> Result<Vec<Job>, Fail> {
+fn jobs_of(alloc: Global, words: &[&str]) -> Result<Vec<Job>, Fail> {
     let mut jobs = Vec::with_capacity(alloc, words.len())?;
     for word in words.iter() {
         jobs.push(job_of(alloc, word)?)?;
@@ -144,7 +144,7 @@ fn job_of(alloc: Global, word: &str) -> Result<Job, Fail> {
 }
 
 /// A round in west, if its conditions hold.
-pub fn west_round<K: Keeper, R: Threads + Sync, G: Gate>(
+fn west_round<K: Keeper, R: Threads + Sync, G: Gate>(
     rt: &R,
     alloc: Global,
     farm: &mut Farm<K, SlotCache<Page>>,
@@ -169,8 +169,35 @@ pub fn west_round<K: Keeper, R: Threads + Sync, G: Gate>(
     }
 }
 
+/// What a round of these jobs at this moment answers in west, as [`heads_of`] has it.
+pub fn heads_at<K: Keeper, R: Threads + Sync, G: Gate>(
+    rt: &R,
+    alloc: Global,
+    farm: &mut Farm<K, SlotCache<Page>>,
+    words: &[&str],
+    at: u64,
+    gate: &G,
+) -> Result<String, Fail> {
+    let jobs = jobs_of(alloc, words)?;
+    let answers = west_round(rt, alloc, farm, jobs, at, gate)?;
+    heads_of(alloc, answers.as_slice())
+}
+
+/// What a round of these jobs at this moment answers in west, as [`lines_of`] has it, if it passes every gate.
+pub fn lines_at<K: Keeper, R: Threads + Sync>(
+    rt: &R,
+    alloc: Global,
+    farm: &mut Farm<K, SlotCache<Page>>,
+    words: &[&str],
+    at: u64,
+) -> Result<String, Fail> {
+    let jobs = jobs_of(alloc, words)?;
+    let answers = west_round(rt, alloc, farm, jobs, at, &OpenGate)?;
+    lines_of(alloc, answers.as_slice())
+}
+
 /// The lines that a report has of these answers, with their places as numbers.
-pub fn lines_of(alloc: Global, answers: &[Answer]) -> Result<String, Fail> {
+fn lines_of(alloc: Global, answers: &[Answer]) -> Result<String, Fail> {
     let mut lines = Vec::new(alloc);
     let mut number = 0u64;
     for answer in answers.iter() {
@@ -181,7 +208,7 @@ pub fn lines_of(alloc: Global, answers: &[Answer]) -> Result<String, Fail> {
 }
 
 /// The same without the pages, with the title of each in front.
-pub fn heads_of(alloc: Global, answers: &[Answer]) -> Result<String, Fail> {
+fn heads_of(alloc: Global, answers: &[Answer]) -> Result<String, Fail> {
     let mut heads = String::new(alloc);
     let mut number = 0u64;
     for answer in answers.iter() {

@@ -1,7 +1,7 @@
 // The command `serve`: a layout is read, connections are served, and one line says how it ended.
 use crate::failing_keeper::FailingKeeper;
-use crate::setting::owned;
-use farm_base::{MemClock, MemConn, MemDoor, MemLots, MemSink, MemSource, Moment, Readings};
+use crate::setting::{owned, source_of, text_of};
+use farm_base::{MemClock, MemConn, MemDoor, MemLots, MemSink, Moment, Readings};
 use purge_relay::FarmWire;
 use revision_keeper::{Keeper, MemKeeper};
 use std::alloc::Global;
@@ -50,18 +50,18 @@ fn outcome_on<R: Threads + Sync, K: Keeper + Drop>(
     keeper: K,
     given: Given<'_>,
 ) -> Result<Outcome, Fail> {
+    let source = source_of(alloc, given.layout.as_bytes(), given.reads)?;
+    let sink = MemSink::new(alloc, given.writes.to_vec(alloc)?);
+    let door = door_of(alloc, given.inputs, given.doors)?;
     let words = owned(alloc, given.words)?;
     let now = Readings {
         home: Moment(5_000),
         west: Moment(5_000),
     };
     let mut outside = Outside {
-        source: MemSource::new(
-            given.layout.as_bytes().to_vec(alloc)?,
-            given.reads.to_vec(alloc)?,
-        ),
-        sink: MemSink::new(alloc, given.writes.to_vec(alloc)?),
-        door: door_of(alloc, given.inputs, given.doors)?,
+        source,
+        sink,
+        door,
         keeper: Some(keeper),
         clock: MemClock::new(Vec::new(alloc), now),
         lots: MemLots::new(Vec::new(alloc), 0),
@@ -74,14 +74,15 @@ fn outcome_on<R: Threads + Sync, K: Keeper + Drop>(
         door,
         ..
     } = outside;
-    if keeper.is_none() {
-        return Err(Fail::new("the keeper was not given back"));
+    match keeper {
+        Some(_) => outcome(alloc, status, &sink, door),
+        None => Err(Fail::new("the keeper was not given back")),
     }
-    Ok(Outcome {
-        status,
-        text: String::from_str(alloc, str::from_utf8(sink.bytes())?)?,
-        door,
-    })
+}
+
+fn outcome(alloc: Global, status: Status, sink: &MemSink, door: MemDoor) -> Result<Outcome, Fail> {
+    let text = text_of(alloc, sink)?;
+    Ok(Outcome { status, text, door })
 }
 
 /// A run over an empty history.
@@ -107,6 +108,19 @@ fn conn_of(alloc: Global, input: &str) -> Result<MemConn, Fail> {
         Vec::new(alloc),
         Vec::new(alloc),
     ))
+}
+
+/// This was written over the connection that the door gave at this place.
+fn has_said(
+    rt: &impl Abort,
+    alloc: Global,
+    door: &MemDoor,
+    place: usize,
+    wanted: &str,
+) -> Result<(), Fail> {
+    let text = said(alloc, door, place)?;
+    assert_eq!(rt; text.as_str(), wanted);
+    Ok(())
 }
 
 /// What was written over the connection that the door gave at this place, counted from 0.
@@ -164,13 +178,11 @@ Connection: keep-alive\r
 fn an_edit_and_a_view_are_served_on_one_connection(rt: HostRuntime) -> Result<(), Fail> {
     let alloc = rt.alloc();
     let input = format!(in alloc; "{SAVING}{READING}")?;
+    let wanted = format!(in alloc; "{SAVED}{READ}")?;
     let found = outcome_of(&rt, alloc, serving(&["serve"], &[&input]))?;
     assert_eq!(rt; found.text.as_str(), "served connections=1\n");
     assert_eq!(rt; found.status, Status::Ok);
-    let wanted = format!(in alloc; "{SAVED}{READ}")?;
-    let text = said(alloc, &found.door, 0)?;
-    assert_eq!(rt; text.as_str(), wanted.as_str());
-    Ok(())
+    has_said(&rt, alloc, &found.door, 0, wanted.as_str())
 }
 
 #[test]
@@ -179,12 +191,9 @@ fn connections_are_served_one_after_another(rt: HostRuntime) -> Result<(), Fail>
     let words = &["serve", "--connections", "2"];
     let found = outcome_of(&rt, alloc, serving(words, &[SAVING, READING, READING]))?;
     assert_eq!(rt; found.text.as_str(), "served connections=2\n");
-    let first = said(alloc, &found.door, 0)?;
-    assert_eq!(rt; first.as_str(), SAVED);
-    let second = said(alloc, &found.door, 1)?;
-    assert_eq!(rt; second.as_str(), READ);
     assert!(rt; found.door.returned(2).is_none());
-    Ok(())
+    has_said(&rt, alloc, &found.door, 0, SAVED)?;
+    has_said(&rt, alloc, &found.door, 1, READ)
 }
 
 #[test]
@@ -261,18 +270,13 @@ fn a_layout_may_name_each_key(rt: HostRuntime) -> Result<(), Fail> {
     let found = outcome_of(&rt, alloc, given)?;
     assert_eq!(rt; found.text.as_str(), "served connections=1\n");
     assert_eq!(rt; found.status, Status::Ok);
-    let first = said(alloc, &found.door, 0)?;
-    assert_eq!(rt; first.as_str(), SAVED);
-    Ok(())
+    has_said(&rt, alloc, &found.door, 0, SAVED)
 }
 
 #[test]
 fn a_layout_that_is_too_long_is_no_document(rt: HostRuntime) -> Result<(), Fail> {
     let alloc = rt.alloc();
-    let mut layout = String::new(alloc);
-    for _ in 0..65_537 {
-        layout.push_str("#")?;
-    }
+    let layout = "#".repeat(alloc, 65_537)?;
     let given = Given {
         layout: &layout,
         ..serving(&["serve"], &[READING])
@@ -293,9 +297,7 @@ fn a_door_that_fails_is_named(rt: HostRuntime) -> Result<(), Fail> {
     let found = outcome_of(&rt, alloc, given)?;
     assert_eq!(rt; found.text.as_str(), "door-fault\n");
     assert_eq!(rt; found.status, Status::DoorFault);
-    let first = said(alloc, &found.door, 0)?;
-    assert_eq!(rt; first.as_str(), SAVED);
-    Ok(())
+    has_said(&rt, alloc, &found.door, 0, SAVED)
 }
 
 #[test]
@@ -337,9 +339,7 @@ fn a_line_that_cannot_be_written_leaves_what_was_served(rt: HostRuntime) -> Resu
     let found = outcome_of(&rt, alloc, given)?;
     assert_eq!(rt; found.text.as_str(), "");
     assert_eq!(rt; found.status, Status::WriteFault);
-    let first = said(alloc, &found.door, 0)?;
-    assert_eq!(rt; first.as_str(), SAVED);
-    Ok(())
+    has_said(&rt, alloc, &found.door, 0, SAVED)
 }
 
 const USAGE: &str =

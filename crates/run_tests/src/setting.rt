@@ -52,15 +52,25 @@ pub fn outcome_on<R: Threads + Sync, K: Keeper + Drop>(
     keeper: K,
     given: Given<'_>,
 ) -> Result<Outcome<K>, Fail> {
-    let source = MemSource::new(given.input.to_vec(alloc)?, given.reads.to_vec(alloc)?);
+    let source = source_of(alloc, given.input, given.reads)?;
     let sink = MemSink::new(alloc, given.writes.to_vec(alloc)?);
     let (status, sink, keeper) = run_over(rt, alloc, given.words, source, sink, keeper)?;
-    let text = std::str::from_utf8(sink.bytes())?;
+    let text = text_of(alloc, &sink)?;
     Ok(Outcome {
         status,
-        text: String::from_str(alloc, text)?,
+        text,
         keeper,
     })
+}
+
+/// A source of this input; its reads of these numbers fail.
+pub fn source_of(alloc: Global, input: &[u8], reads: &[u64]) -> Result<MemSource, Fail> {
+    Ok(MemSource::new(input.to_vec(alloc)?, reads.to_vec(alloc)?))
+}
+
+/// What was written.
+pub fn text_of(alloc: Global, sink: &MemSink) -> Result<String, Fail> {
+    Ok(String::from_str(alloc, std::str::from_utf8(sink.bytes())?)?)
 }
 
 /// A run over an empty keeper.

@@ -25,9 +25,15 @@ fn farm_of_three<K: Keeper + Drop>(
     keeper: K,
 ) -> Result<ServedFarm<K, SlotCache<Page>>, Fail> {
     let mut served = saved_three(alloc, keeper)?;
-    carry(&mut served.farm, 1)?;
-    carry(&mut served.farm, 5)?;
+    carry_first_and_last(&mut served.farm)?;
     Ok(served)
+}
+
+fn carry_first_and_last<K: Keeper, S: RegionStore<Page>>(
+    farm: &mut Farm<K, S>,
+) -> Result<(), Fail> {
+    carry(farm, 1)?;
+    carry(farm, 5)
 }
 
 /// What is written for this input at 30,000, where the wire has B's purge and no other message.
@@ -114,7 +120,14 @@ fn renders_and_hits<R: AllocGlobal + Threads + Sync + Abort, K: Keeper + Drop>(
     keeper: K,
 ) -> Result<(), Fail> {
     let mut served = farm_of_three(rt.alloc(), keeper)?;
-    let text = said_for(rt, &mut served, THREE_TWICE)?;
+    says_three_twice(rt, &mut served)
+}
+
+fn says_three_twice<R: AllocGlobal + Threads + Sync + Abort, K: Keeper>(
+    rt: &R,
+    served: &mut ServedFarm<K, SlotCache<Page>>,
+) -> Result<(), Fail> {
+    let text = said_for(rt, served, THREE_TWICE)?;
     assert_eq!(rt; text.as_str(), RENDERED_AND_HIT);
     assert!(rt; served.farm.receipt(3, Region::West).is_some());
     Ok(())
@@ -171,7 +184,14 @@ fn hits_what_was_viewed<R: AllocGlobal + Threads + Sync + Abort, K: Keeper + Dro
     keeper: K,
 ) -> Result<(), Fail> {
     let mut served = small_farm(rt.alloc(), keeper)?;
-    let text = said_at_5_and_30_seconds(rt, &mut served, SAVED_VIEWED_AND_LISTED)?;
+    says_one_listed(rt, &mut served)
+}
+
+fn says_one_listed<R: AllocGlobal + Threads + Sync + Abort, K: Keeper>(
+    rt: &R,
+    served: &mut ServedFarm<K, SlotCache<Page>>,
+) -> Result<(), Fail> {
+    let text = said_at_5_and_30_seconds(rt, served, SAVED_VIEWED_AND_LISTED)?;
     assert!(rt; text.as_str().ends_with(ONE_LISTED));
     Ok(())
 }

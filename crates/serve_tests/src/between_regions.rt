@@ -18,7 +18,11 @@ fn sends_and_carries<R: AllocGlobal + Threads + Sync + Abort, K: Keeper + Drop>(
     rt: &R,
     keeper: K,
 ) -> Result<(), Fail> {
-    let input = "\
+    let mut served = small_farm(rt.alloc(), keeper)?;
+    are_carried_after(rt, &mut served, EDIT_AND_VIEW)
+}
+
+const EDIT_AND_VIEW: &str = "\
 POST /edit HTTP/1.1\r
 Host: wiki.example\r
 Content-Length: 31\r
@@ -28,11 +32,17 @@ GET /wiki/B HTTP/1.1\r
 Host: wiki.example\r
 \r
 ";
-    let mut served = small_farm(rt.alloc(), keeper)?;
-    said_at_once(rt, &mut served, input)?;
+
+// After this input the edit's two messages are sent, and west has received its purge.
+fn are_carried_after<R: AllocGlobal + Threads + Sync + Abort, K: Keeper>(
+    rt: &R,
+    served: &mut ServedFarm<K, SlotCache<Page>>,
+    input: &str,
+) -> Result<(), Fail> {
+    said_at_once(rt, served, input)?;
     assert_eq!(rt; served.farm.issued(), 2);
-    has_sent(rt, &served, 2)?;
-    has_received(rt, &served, true)
+    has_sent(rt, served, 2)?;
+    has_received(rt, served, true)
 }
 
 #[test]
@@ -45,11 +55,19 @@ fn sends_what_was_left<R: AllocGlobal + Threads + Sync + Abort, K: Keeper + Drop
     keeper: K,
 ) -> Result<(), Fail> {
     let mut served = small_farm(rt.alloc(), keeper)?;
-    leaves_unsent(rt, &mut served)?;
-    let input = "GET /wiki/B HTTP/1.1\r\nHost: wiki.example\r\n\r\n";
-    said_at_once(rt, &mut served, input)?;
-    has_sent(rt, &served, 2)?;
-    has_received(rt, &served, true)
+    sends_by_the_next(rt, &mut served)
+}
+
+fn sends_by_the_next<R: AllocGlobal + Threads + Sync + Abort, K: Keeper>(
+    rt: &R,
+    served: &mut ServedFarm<K, SlotCache<Page>>,
+) -> Result<(), Fail> {
+    leaves_unsent(rt, served)?;
+    are_carried_after(
+        rt,
+        served,
+        "GET /wiki/B HTTP/1.1\r\nHost: wiki.example\r\n\r\n",
+    )
 }
 
 /// Its connection ends before there is a request whose housekeeping would send the edit's messages.
@@ -85,6 +103,15 @@ fn takes_later<R: AllocGlobal + Threads + Sync + Abort, K: Keeper + Drop, W: Wir
     keeper: K,
     wire: &mut W,
 ) -> Result<(), Fail> {
+    let mut served = small_farm(rt.alloc(), keeper)?;
+    takes_at_last(rt, &mut served, wire)
+}
+
+fn takes_at_last<R: AllocGlobal + Threads + Sync + Abort, K: Keeper, W: Wire>(
+    rt: &R,
+    served: &mut ServedFarm<K, SlotCache<Page>>,
+    wire: &mut W,
+) -> Result<(), Fail> {
     let input = "\
 POST /edit HTTP/1.1\r
 Host: wiki.example\r
@@ -98,8 +125,7 @@ GET /wiki/B HTTP/1.1\r
 Host: wiki.example\r
 \r
 ";
-    let mut served = small_farm(rt.alloc(), keeper)?;
-    said_at(rt, &mut served, wire, 5_000, input)?;
-    has_sent(rt, &served, 2)?;
-    has_received(rt, &served, true)
+    said_at(rt, served, wire, 5_000, input)?;
+    has_sent(rt, served, 2)?;
+    has_received(rt, served, true)
 }

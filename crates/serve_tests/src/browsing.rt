@@ -1,26 +1,55 @@
 // An edit and a view, byte for byte, and how a connection ends.
 use crate::setting::{READ, READING, SAVED, SAVING, Talked, talk, talk_in_pieces};
+use std::process::Abort;
 use std::test::Fail;
+use std::thread::Threads;
 use wiki_serve::ConnEnd;
+
+// The input is answered with this text, and the connection ends so.
+fn is_answered<R: AllocGlobal + Threads + Sync + Abort>(
+    rt: &R,
+    input: &[u8],
+    piece: usize,
+    wanted: &str,
+    wanted_end: ConnEnd,
+) -> Result<(), Fail> {
+    let Talked { end, text } = talk_in_pieces(rt, input, piece)?;
+    assert_eq!(rt; text.as_str(), wanted);
+    assert_eq!(rt; end, wanted_end);
+    Ok(())
+}
+
+// The answers to this input end with this text, and the connection ends so.
+fn is_answered_last<R: AllocGlobal + Threads + Sync + Abort>(
+    rt: &R,
+    input: &[u8],
+    last: &str,
+    wanted_end: ConnEnd,
+) -> Result<(), Fail> {
+    let Talked { end, text } = talk(rt, input)?;
+    assert!(rt; text.as_str().ends_with(last));
+    assert_eq!(rt; end, wanted_end);
+    Ok(())
+}
 
 #[test]
 fn an_edit_is_saved_and_its_page_is_seen(rt: HostRuntime) -> Result<(), Fail> {
     let input = format!(in rt.alloc(); "{SAVING}{READING}")?;
-    let Talked { end, text } = talk(&rt, input.as_bytes())?;
     let wanted = format!(in rt.alloc(); "{SAVED}{READ}")?;
-    assert_eq!(rt; text.as_str(), wanted.as_str());
-    assert_eq!(rt; end, ConnEnd::Closed);
-    Ok(())
+    is_answered(
+        &rt,
+        input.as_bytes(),
+        65_536,
+        wanted.as_str(),
+        ConnEnd::Closed,
+    )
 }
 
 #[test]
 fn the_same_is_said_byte_by_byte(rt: HostRuntime) -> Result<(), Fail> {
     let input = format!(in rt.alloc(); "{SAVING}{READING}")?;
-    let Talked { end, text } = talk_in_pieces(&rt, input.as_bytes(), 1)?;
     let wanted = format!(in rt.alloc(); "{SAVED}{READ}")?;
-    assert_eq!(rt; text.as_str(), wanted.as_str());
-    assert_eq!(rt; end, ConnEnd::Closed);
-    Ok(())
+    is_answered(&rt, input.as_bytes(), 1, wanted.as_str(), ConnEnd::Closed)
 }
 
 #[test]
@@ -28,7 +57,6 @@ fn a_head_says_how_long_the_page_is_and_does_not_send_it(rt: HostRuntime) -> Res
     let input = format!(in rt.alloc();
         "{SAVING}HEAD /wiki/Caf%C3%A9_menu HTTP/1.0\r\nHost: wiki.example\r\n\r\n"
     )?;
-    let Talked { end, text } = talk(&rt, input.as_bytes())?;
     let last = "\
 Connection: keep-alive\r
 \r
@@ -42,15 +70,12 @@ Wiki-Lagged: 0\r
 Connection: close\r
 \r
 ";
-    assert!(rt; text.as_str().ends_with(last));
-    assert_eq!(rt; end, ConnEnd::Ended);
-    Ok(())
+    is_answered_last(&rt, input.as_bytes(), last, ConnEnd::Ended)
 }
 
 #[test]
 fn a_page_that_is_not_there_is_said_of_its_prefix(rt: HostRuntime) -> Result<(), Fail> {
     let input = b"GET /wiki/A HTTP/1.1\r\nHost: wiki.example\r\nConnection: close\r\n\r\nGET /";
-    let Talked { end, text } = talk(&rt, input)?;
     let wanted = "\
 HTTP/1.1 404 Not Found\r
 Content-Type: text/plain; charset=utf-8\r
@@ -60,9 +85,7 @@ Connection: close\r
 \r
 no-page source=1
 ";
-    assert_eq!(rt; text.as_str(), wanted);
-    assert_eq!(rt; end, ConnEnd::Ended);
-    Ok(())
+    is_answered(&rt, input, 65_536, wanted, ConnEnd::Ended)
 }
 
 #[test]
@@ -81,7 +104,6 @@ Cookie: cpPosIndex=1@5#00000000000000000000000000000001\r
 \r
 title=Caf%C3%A9_menu&base=0&token=k2&text=two";
     let input = format!(in rt.alloc(); "{SAVING}{again}")?;
-    let Talked { end, text } = talk(&rt, input.as_bytes())?;
     let last = "\
 HTTP/1.1 422 Unprocessable Content\r
 Content-Type: text/plain; charset=utf-8\r
@@ -96,9 +118,7 @@ Connection: keep-alive\r
 \r
 conflict base=0 current=1
 ";
-    assert!(rt; text.as_str().ends_with(last));
-    assert_eq!(rt; end, ConnEnd::Closed);
-    Ok(())
+    is_answered_last(&rt, input.as_bytes(), last, ConnEnd::Closed)
 }
 
 #[test]
@@ -110,13 +130,8 @@ Cookie: cpPosIndex=2@5#00000000000000000000000000000001\r
 \r
 ";
     let input = format!(in rt.alloc(); "{SAVING}{view}")?;
-    let Talked { end, text } = talk(&rt, input.as_bytes())?;
-    assert_eq!(rt; end, ConnEnd::Closed);
-    assert!(rt;
-        text.as_str()
-            .ends_with("\r\n\r\nlag index needed=2 reached=1\n")
-    );
-    Ok(())
+    let last = "\r\n\r\nlag index needed=2 reached=1\n";
+    is_answered_last(&rt, input.as_bytes(), last, ConnEnd::Closed)
 }
 
 #[test]

@@ -220,10 +220,20 @@ fn leaves_a_part<R: AllocGlobal + Threads + Sync + Abort, K: Keeper + Drop>(
     keeper: K,
     part: &[u8],
 ) -> Result<(), Fail> {
-    let mut served = new_farm(rt.alloc(), keeper)?;
+    let part = str::from_utf8(part)?;
     let calls = writing(1, (part.len() as u64).saturating_add(1));
-    tells_part(rt, &mut served, calls, str::from_utf8(part)?)?;
-    tells_all(rt, &mut served)
+    let mut served = new_farm(rt.alloc(), keeper)?;
+    tells_part_and_all(rt, &mut served, calls, part)
+}
+
+fn tells_part_and_all<R: AllocGlobal + Threads + Sync + Abort, K: Keeper>(
+    rt: &R,
+    served: &mut ServedFarm<K, SlotCache<Page>>,
+    calls: Calls,
+    part: &str,
+) -> Result<(), Fail> {
+    tells_part(rt, served, calls, part)?;
+    tells_all(rt, served)
 }
 
 fn tells_part<R: AllocGlobal + Threads + Sync + Abort, K: Keeper>(
@@ -254,8 +264,7 @@ fn tells_again<R: AllocGlobal + Threads + Sync + Abort, K: Keeper + Drop>(
     keeper: K,
 ) -> Result<(), Fail> {
     let mut served = small_farm(rt.alloc(), keeper)?;
-    tells_part(rt, &mut served, writing(65_536, 1), "")?;
-    tells_all(rt, &mut served)
+    tells_part_and_all(rt, &mut served, writing(65_536, 1), "")
 }
 
 // How many bytes a call moves. With 7 the answer takes 52 writes, with more fewer.
@@ -371,12 +380,20 @@ fn sends_later<R: AllocGlobal + Threads + Sync + Abort, K: Keeper + Drop, W: Wir
     wire: &mut W,
 ) -> Result<(), Fail> {
     let mut served = small_farm(rt.alloc(), keeper)?;
-    saves_and_reads(rt, &mut served, wire)?;
-    has_sent(rt, &served, 0)?;
-    has_received(rt, &served, false)?;
-    asks_elsewhere(rt, &mut served, wire)?;
-    has_sent(rt, &served, 2)?;
-    has_received(rt, &served, true)
+    sends_at_last(rt, &mut served, wire)
+}
+
+fn sends_at_last<R: AllocGlobal + Threads + Sync + Abort, K: Keeper, W: Wire>(
+    rt: &R,
+    served: &mut ServedFarm<K, SlotCache<Page>>,
+    wire: &mut W,
+) -> Result<(), Fail> {
+    saves_and_reads(rt, served, wire)?;
+    has_sent(rt, served, 0)?;
+    has_received(rt, served, false)?;
+    asks_elsewhere(rt, served, wire)?;
+    has_sent(rt, served, 2)?;
+    has_received(rt, served, true)
 }
 
 fn asks_elsewhere<R: AllocGlobal + Threads + Sync + Abort, K: Keeper, W: Wire>(
@@ -418,7 +435,15 @@ fn takes_later<R: AllocGlobal + Threads + Sync + Abort, K: Keeper + Drop, W: Wir
     wire: &mut W,
 ) -> Result<(), Fail> {
     let mut served = small_farm(rt.alloc(), keeper)?;
-    saves_and_reads(rt, &mut served, wire)?;
-    has_sent(rt, &served, 2)?;
-    has_received(rt, &served, true)
+    takes_at_last(rt, &mut served, wire)
+}
+
+fn takes_at_last<R: AllocGlobal + Threads + Sync + Abort, K: Keeper, W: Wire>(
+    rt: &R,
+    served: &mut ServedFarm<K, SlotCache<Page>>,
+    wire: &mut W,
+) -> Result<(), Fail> {
+    saves_and_reads(rt, served, wire)?;
+    has_sent(rt, served, 2)?;
+    has_received(rt, served, true)
 }

@@ -1,6 +1,9 @@
 // Input that is cut, refused or too large, and calls of a connection that fail.
 use crate::setting::{Talked, conn_failing, serve_new, talk, written};
+use std::alloc::Global;
+use std::process::Abort;
 use std::test::Fail;
+use std::thread::Threads;
 use wiki_serve::ConnEnd;
 
 #[test]
@@ -54,28 +57,37 @@ no-route
 
 #[test]
 fn a_text_at_its_limit_is_saved_and_one_more_is_not(rt: HostRuntime) -> Result<(), Fail> {
-    let mut most = String::new(rt.alloc());
-    for _ in 0..65_536 {
-        most.push_str("a")?;
-    }
+    let saved = posting(rt.alloc(), 65_536)?;
+    is_answered_between(&rt, saved.as_bytes(), "HTTP/1.1 303 See Other\r\n", "\n")?;
+    let refused = posting(rt.alloc(), 65_537)?;
+    is_answered_between(
+        &rt,
+        refused.as_bytes(),
+        "HTTP/1.1 413 Content Too Large\r\n",
+        "\r\n\r\nlarge bytes=65537\n",
+    )
+}
+
+// An edit whose text has so many bytes.
+fn posting(alloc: Global, bytes: usize) -> Result<String, Fail> {
+    let text = "a".repeat(alloc, bytes)?;
     let fields = "title=A&base=0&token=k&text=";
-    let length = fields.len() + 65_536;
-    let more = length + 1;
-    let input = format!(in rt.alloc();
-        "POST /edit HTTP/1.1\r\nHost: a\r\nContent-Length: {length}\r\n\r\n{fields}{most}"
-    )?;
-    let Talked { end, text } = talk(&rt, input.as_bytes())?;
-    assert!(rt; text.as_str().starts_with("HTTP/1.1 303 See Other\r\n"));
-    assert_eq!(rt; end, ConnEnd::Closed);
-    let input = format!(in rt.alloc();
-        "POST /edit HTTP/1.1\r\nHost: a\r\nContent-Length: {more}\r\n\r\n{fields}{most}a"
-    )?;
-    let Talked { end, text } = talk(&rt, input.as_bytes())?;
-    assert!(rt; text.as_str().ends_with("\r\n\r\nlarge bytes=65537\n"));
-    assert!(rt;
-        text.as_str()
-            .starts_with("HTTP/1.1 413 Content Too Large\r\n")
-    );
+    let length = fields.len().saturating_add(bytes);
+    Ok(format!(in alloc;
+        "POST /edit HTTP/1.1\r\nHost: a\r\nContent-Length: {length}\r\n\r\n{fields}{text}"
+    )?)
+}
+
+// The answer begins and ends so, and then the connection is closed.
+fn is_answered_between<R: AllocGlobal + Threads + Sync + Abort>(
+    rt: &R,
+    input: &[u8],
+    first: &str,
+    last: &str,
+) -> Result<(), Fail> {
+    let Talked { end, text } = talk(rt, input)?;
+    assert!(rt; text.as_str().starts_with(first));
+    assert!(rt; text.as_str().ends_with(last));
     assert_eq!(rt; end, ConnEnd::Closed);
     Ok(())
 }

@@ -4,6 +4,7 @@ use farm_base::Region;
 use farm_core::Page;
 use purge_relay::{Deal, FarmWire, Message, Wire};
 use revision_keeper::{Keeper, MemKeeper};
+use slot_cache::SlotCache;
 use std::alloc::Global;
 use std::process::Abort;
 use std::test::Fail;
@@ -200,19 +201,27 @@ fn is_behind<R: AllocGlobal + Threads + Sync + Abort, K: Keeper + Drop, W: Wire>
     keeper: K,
     wire: &mut W,
 ) -> Result<(), Fail> {
+    let mut served = saved_three(rt.alloc(), keeper)?;
+    is_told_that_it_is_behind(rt, &mut served, wire)
+}
+
+fn is_told_that_it_is_behind<R: AllocGlobal + Threads + Sync + Abort, K: Keeper, W: Wire>(
+    rt: &R,
+    served: &mut ServedFarm<K, SlotCache<Page>>,
+    wire: &mut W,
+) -> Result<(), Fail> {
     let input = "\
 GET /batch?titles=A%7CB HTTP/1.1\r
 Host: west.wiki.example\r
 Cookie: cpPosIndex=4@25#00000000000000000000000000000001\r
 \r
 ";
-    let mut served = saved_three(rt.alloc(), keeper)?;
-    let text = said_later(rt, &mut served, wire, input)?;
+    let text = said_later(rt, served, wire, input)?;
     assert!(rt;
         text.as_str()
             .ends_with("\r\n\r\nlag index needed=4 reached=0\n")
     );
-    let west = receipts_of(&served);
+    let west = receipts_of(served);
     assert!(rt; west.a && west.b);
     Ok(())
 }
@@ -254,11 +263,19 @@ fn received_under_other<R: AllocGlobal + Threads + Sync, K: Keeper + Drop, W: Wi
     wire: &mut W,
 ) -> Result<Received, Fail> {
     let mut served = saved_three(rt.alloc(), keeper)?;
-    send_as(&served, wire, 1, 3)?;
-    send_as(&served, wire, 5, 5)?;
-    served.sent = served.farm.issued();
+    send_under_other(&mut served, wire)?;
     said_later(rt, &mut served, wire, A_IN_WEST)?;
     Ok(receipts_of(&served))
+}
+
+fn send_under_other<K: Keeper, S: RegionStore<Page>, W: Wire>(
+    served: &mut ServedFarm<K, S>,
+    wire: &mut W,
+) -> Result<(), Fail> {
+    send_as(served, wire, 1, 3)?;
+    send_as(served, wire, 5, 5)?;
+    served.sent = served.farm.issued();
+    Ok(())
 }
 
 /// Sends the body of message `of` under this number.

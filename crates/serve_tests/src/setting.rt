@@ -121,10 +121,17 @@ pub fn saved_three<K: Keeper + Drop>(
     keeper: K,
 ) -> Result<ServedFarm<K, SlotCache<Page>>, Fail> {
     let mut served = small_farm(alloc, keeper)?;
-    save(alloc, &mut served.farm, "A", "one")?;
-    save(alloc, &mut served.farm, "B", "two")?;
-    save(alloc, &mut served.farm, "C", "six")?;
+    save_three(alloc, &mut served.farm)?;
     Ok(served)
+}
+
+fn save_three<K: Keeper, S: RegionStore<Page>>(
+    alloc: Global,
+    farm: &mut Farm<K, S>,
+) -> Result<(), Fail> {
+    save(alloc, farm, "A", "one")?;
+    save(alloc, farm, "B", "two")?;
+    save(alloc, farm, "C", "six")
 }
 
 /// Saves the first text of a page at 5,000, without housekeeping. Its title is its token.

@@ -1,8 +1,10 @@
 // A few appends and every question, by answers that are written out; a second start; and a refused opening.
-use crate::setting::{Questions, answers, edit_of, new_keeper, started};
+use crate::setting::{Edit, Questions, answers, edit_of, new_keeper, started};
 use crate::twins::Twins;
+use commit_feed::{Entry, Writes};
+use farm_base::Moment;
 use revision_keeper::{KeepFault, Keeper, MemKeeper};
-use sqlite::{Error, ErrorCode, MemStore};
+use sqlite::{Alter, Error, ErrorCode, MemStore};
 use sqlite_keeper::SqliteKeeper;
 use std::alloc::Global;
 use std::process::Abort;
@@ -56,69 +58,176 @@ fn answers_as_written<K: Keeper>(
 
 #[test]
 fn both_keepers_answer_as_is_written_here(rt: HostRuntime) -> Result<(), Fail> {
-    let alloc = rt.alloc();
-    let mut stored = beat_and_commit(alloc, Twins::new(alloc, new_keeper(alloc)?))?;
-    answers_as_written(&rt, alloc, &mut stored)?;
-    assert_eq!(rt; stored.faults(), 0);
-    let mut in_memory = beat_and_commit(alloc, Twins::new(alloc, MemKeeper::new(alloc)))?;
-    answers_as_written(&rt, alloc, &mut in_memory)
+    let mut stored = stored_two(rt.alloc())?;
+    answers_without_fault(&rt, rt.alloc(), &mut stored)?;
+    let mut in_memory = two_in_memory(rt.alloc())?;
+    answers_as_written(&rt, rt.alloc(), &mut in_memory)
+}
+
+fn stored_two(alloc: Global) -> Result<SqliteKeeper<MemStore>, Fail> {
+    beat_and_commit(alloc, Twins::new(alloc, new_keeper(alloc)?))
+}
+
+fn two_in_memory(alloc: Global) -> Result<MemKeeper, Fail> {
+    beat_and_commit(alloc, Twins::new(alloc, MemKeeper::new(alloc)))
+}
+
+fn answers_without_fault<S: Alter + Drop>(
+    rt: &impl Abort,
+    alloc: Global,
+    keeper: &mut SqliteKeeper<S>,
+) -> Result<(), Fail> {
+    answers_as_written(rt, alloc, keeper)?;
+    assert_eq!(rt; keeper.faults(), 0);
+    Ok(())
 }
 
 #[test]
 fn a_second_start_changes_nothing(rt: HostRuntime) -> Result<(), Fail> {
-    let alloc = rt.alloc();
-    let mut stored = beat_and_commit(alloc, Twins::new(alloc, new_keeper(alloc)?))?;
-    stored.start()?;
-    answers_as_written(&rt, alloc, &mut stored)?;
-    assert_eq!(rt; stored.faults(), 0);
-    Ok(())
+    let mut stored = stored_two(rt.alloc())?;
+    starts_and_answers(&rt, rt.alloc(), &mut stored)
+}
+
+fn starts_and_answers<S: Alter + Drop>(
+    rt: &impl Abort,
+    alloc: Global,
+    keeper: &mut SqliteKeeper<S>,
+) -> Result<(), Fail> {
+    keeper.start()?;
+    answers_without_fault(rt, alloc, keeper)
 }
 
 #[test]
 fn a_database_that_is_opened_again_answers_the_same(rt: HostRuntime) -> Result<(), Fail> {
-    let alloc = rt.alloc();
-    let stored = beat_and_commit(alloc, Twins::new(alloc, new_keeper(alloc)?))?;
-    let mut again = started(alloc, stored.into_opened()?)?;
-    answers_as_written(&rt, alloc, &mut again)?;
-    assert_eq!(rt; again.faults(), 0);
-    Ok(())
+    let mut again = started(rt.alloc(), stored_two(rt.alloc())?.into_opened()?)?;
+    answers_without_fault(&rt, rt.alloc(), &mut again)
 }
 
 #[test]
 fn nothing_is_asked_of_tables_that_are_not_ready(rt: HostRuntime) -> Result<(), Fail> {
-    let alloc = rt.alloc();
-    let stored = beat_and_commit(alloc, Twins::new(alloc, new_keeper(alloc)?))?;
-    let mut again = SqliteKeeper::new(alloc, stored.into_opened());
-    assert_eq!(rt; again.len(), Err(KeepFault::Fault));
-    let token = Token::parse(alloc, "t1")?;
+    let token = Token::parse(rt.alloc(), "t1")?;
+    let mut again = SqliteKeeper::new(rt.alloc(), stored_two(rt.alloc())?.into_opened());
+    asks_nothing(&rt, &mut again, &token);
+    starts(&rt, rt.alloc(), &mut again)
+}
+
+fn asks_nothing<S: Alter + Drop>(rt: &impl Abort, keeper: &mut SqliteKeeper<S>, token: &Token) {
+    assert_eq!(rt; keeper.len(), Err(KeepFault::Fault));
     assert_eq!(rt;
-        again.by_token(&ClientId::number(1), &token),
+        keeper.by_token(&ClientId::number(1), token),
         Err(KeepFault::Fault)
     );
-    assert_eq!(rt; again.faults(), 2);
-    again.start()?;
-    answers_as_written(&rt, alloc, &mut again)
+    assert_eq!(rt; keeper.faults(), 2);
+}
+
+fn starts<K: Keeper>(rt: &impl Abort, alloc: Global, keeper: &mut K) -> Result<(), Fail> {
+    keeper.start()?;
+    answers_as_written(rt, alloc, keeper)
+}
+
+// A commit of `A` by client 1 and one of `B` by client 2, by turns: what is asked before an append is asked again after
+// it, of the same title, token and client and of others.
+#[test]
+fn an_append_changes_the_answers_of_its_own(rt: HostRuntime) -> Result<(), Fail> {
+    let mut keeper = new_keeper(rt.alloc())?;
+    appends_by_turns(&rt, rt.alloc(), &mut keeper)?;
+    assert_eq!(rt; keeper.faults(), 0);
+    Ok(())
+}
+
+// whose commit it is, its token, and which one of its title's and of its client's
+const BY_TURNS: [(u64, &str, u64); 5] = [
+    (1, "t1", 1),
+    (2, "t1", 1),
+    (1, "t2", 2),
+    (1, "t3", 3),
+    (2, "t2", 2),
+];
+
+fn appends_by_turns<S: Alter + Drop>(
+    rt: &impl Abort,
+    alloc: Global,
+    keeper: &mut SqliteKeeper<S>,
+) -> Result<(), Fail> {
+    let mut number = 0u64;
+    for (client, token, count) in BY_TURNS {
+        let edit = edit_by(alloc, client, token)?;
+        asks(rt, keeper, &edit, number, None)?;
+        number = number.saturating_add(1);
+        assert_eq!(rt; keeper.append(commit_of(&edit, number, count)?)?, number);
+        asks(rt, keeper, &edit, number, Some(count))?;
+    }
+    Ok(())
+}
+
+// Client 1 edits `A`, and client 2 edits `B`.
+fn edit_by(alloc: Global, client: u64, token: &str) -> Result<Edit, Fail> {
+    let title = if client == 1 { "A" } else { "B" };
+    edit_of(alloc, client, token, title, 1, "text")
+}
+
+fn commit_of(edit: &Edit, number: u64, count: u64) -> Result<Entry, Fail> {
+    Ok(Entry::Commit {
+        stamp: Moment(number),
+        purge: 1,
+        title: edit.title.clone()?,
+        revision: count,
+        client: edit.client,
+        index: count,
+        token: edit.token.clone()?,
+        base: count.saturating_sub(1),
+        text: edit.text.clone()?,
+    })
+}
+
+// After `number` entries the edit's commit is the last, and this one of its client's; or it is not there yet.
+fn asks<K: Keeper>(
+    rt: &impl Abort,
+    keeper: &mut K,
+    edit: &Edit,
+    number: u64,
+    count: Option<u64>,
+) -> Result<(), Fail> {
+    let found = count.map(|_| number);
+    assert_eq!(rt; keeper.len()?, number);
+    assert_eq!(rt; keeper.by_token(&edit.client, &edit.token)?, found);
+    let writes = keeper.writes_of(&edit.client)?;
+    let latest = keeper.latest(&edit.title, number)?;
+    if let Some(count) = count {
+        assert_eq!(rt; latest, found);
+        assert_eq!(rt;
+            writes,
+            Writes {
+                count,
+                last: number,
+                stamp: Moment(number)
+            }
+        );
+        assert_eq!(rt;
+            keeper.latest(&edit.title, number.saturating_sub(1))? == found,
+            false
+        );
+    }
+    assert_eq!(rt; writes.last, latest.unwrap_or(0));
+    Ok(())
 }
 
 #[test]
 fn a_refused_opening_answers_every_call(rt: HostRuntime) {
-    let alloc = rt.alloc();
-    let mut refused: SqliteKeeper<MemStore> = SqliteKeeper::new(
-        alloc,
-        Err(Error::SqliteFailure(ErrorCode::CannotOpen)),
-    );
-    assert_eq!(rt; refused.start(), Err(KeepFault::Fault));
-    assert_eq!(rt; refused.len(), Err(KeepFault::Fault));
-    assert_eq!(rt;
-        refused.writes_of(&ClientId::number(1)),
-        Err(KeepFault::Fault)
-    );
+    let mut refused = refused_by(rt.alloc(), ErrorCode::CannotOpen);
+    answers_by(&rt, &mut refused, KeepFault::Fault);
     assert_eq!(rt; refused.faults(), 3);
-    let mut starved: SqliteKeeper<MemStore> = SqliteKeeper::new(
-        alloc,
-        Err(Error::SqliteFailure(ErrorCode::OutOfMemory)),
-    );
-    assert_eq!(rt; starved.start(), Err(KeepFault::Memory));
-    assert_eq!(rt; starved.len(), Err(KeepFault::Memory));
+    let mut starved = refused_by(rt.alloc(), ErrorCode::OutOfMemory);
+    answers_by(&rt, &mut starved, KeepFault::Memory);
     assert_eq!(rt; starved.faults(), 0);
+}
+
+fn refused_by(alloc: Global, code: ErrorCode) -> SqliteKeeper<MemStore> {
+    SqliteKeeper::new(alloc, Err(Error::SqliteFailure(code)))
+}
+
+fn answers_by<K: Keeper>(rt: &impl Abort, keeper: &mut K, fault: KeepFault) {
+    assert_eq!(rt; keeper.start(), Err(fault));
+    assert_eq!(rt; keeper.len(), Err(fault));
+    assert_eq!(rt; keeper.writes_of(&ClientId::number(1)), Err(fault));
 }

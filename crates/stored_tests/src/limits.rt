@@ -4,9 +4,10 @@ use crate::twins::Twins;
 use commit_feed::Entry;
 use farm_base::{MOMENT_MAX, Moment};
 use revision_keeper::{KeepFault, Keeper};
-use sqlite::{MemStore, params};
+use sqlite::{Alter, Connection, Error, MemStore, params};
 use sqlite_keeper::SqliteKeeper;
 use std::alloc::Global;
+use std::process::Abort;
 use std::test::Fail;
 use wiki_titles::{ClientId, TEXT_MAX, Text, Title, Token};
 
@@ -131,31 +132,43 @@ fn a_row_that_no_history_has_is_a_fault(rt: HostRuntime) -> Result<(), Fail> {
 
 #[test]
 fn a_stored_text_past_its_limit_is_a_fault(rt: HostRuntime) -> Result<(), Fail> {
-    let alloc = rt.alloc();
     for (bytes, fails) in [(TEXT_MAX, false), (TEXT_MAX + 1, true)] {
-        let mut conn = two_commits(alloc)?.into_opened()?;
-        let body = "x".repeat(alloc, bytes)?;
-        conn.execute(
-            "UPDATE change SET body = ?1 WHERE n = 2",
-            params![body.as_str()],
-        )?;
-        let mut keeper = started(alloc, conn)?;
+        let mut keeper = with_text(rt.alloc(), bytes)?;
         assert_eq!(rt; is_fault(keeper.entry(2)), fails);
     }
     Ok(())
 }
 
+// A keeper of which the text of entry 2 has so many bytes.
+fn with_text(alloc: Global, bytes: usize) -> Result<SqliteKeeper<MemStore>, Fail> {
+    let mut conn = two_commits(alloc)?.into_opened()?;
+    set_text(&mut conn, "x".repeat(alloc, bytes)?.as_str())?;
+    started(alloc, conn)
+}
+
+fn set_text(conn: &mut Connection<MemStore>, body: &str) -> Result<usize, Error> {
+    conn.execute("UPDATE change SET body = ?1 WHERE n = 2", params![body])
+}
+
 #[test]
 fn a_fault_of_one_row_leaves_the_others(rt: HostRuntime) -> Result<(), Fail> {
-    let alloc = rt.alloc();
-    let mut keeper = changed(alloc, "UPDATE change SET client = 'X' WHERE n = 2")?;
+    let title = Title::parse(rt.alloc(), "A")?;
+    let mut keeper = changed(rt.alloc(), "UPDATE change SET client = 'X' WHERE n = 2")?;
     keeper.start()?;
+    leaves_the_others(&rt, &mut keeper, &title);
+    Ok(())
+}
+
+fn leaves_the_others<S: Alter + Drop>(
+    rt: &impl Abort,
+    keeper: &mut SqliteKeeper<S>,
+    title: &Title,
+) {
     assert!(rt; is_fault(keeper.entry(2)));
-    assert_eq!(rt; keeper.latest(&Title::parse(alloc, "A")?, 3), Ok(Some(3)));
+    assert_eq!(rt; keeper.latest(title, 3), Ok(Some(3)));
     assert!(rt; is_fault(keeper.entry(2)));
     assert!(rt; keeper.entry(3).is_ok() && keeper.entry(1).is_ok());
     assert_eq!(rt; keeper.faults(), 2);
-    Ok(())
 }
 
 // The next commit on `A` by client 1, but for what a test changes.
@@ -241,17 +254,38 @@ const ASKED: Questions<'static> = Questions {
 
 #[test]
 fn a_refused_entry_leaves_the_history(rt: HostRuntime) -> Result<(), Fail> {
-    let alloc = rt.alloc();
-    let mut keeper = two_commits(alloc)?;
-    let before = answers(alloc, &mut keeper, &ASKED)?;
+    let mut keeper = two_commits(rt.alloc())?;
+    refuses_all(&rt, rt.alloc(), &mut keeper)?;
+    assert_eq!(rt;
+        keeper.append(commit_of(rt.alloc(), "A", "t3", NEXT)?),
+        Ok(4)
+    );
+    Ok(())
+}
+
+fn refuses_all<S: Alter + Drop>(
+    rt: &impl Abort,
+    alloc: Global,
+    keeper: &mut SqliteKeeper<S>,
+) -> Result<(), Fail> {
+    let before = answers(alloc, keeper, &ASKED)?;
     let mut refused = 0u64;
     for entry in refused_entries(alloc)? {
         assert!(rt; is_fault(keeper.append(entry)), "{refused}");
         refused = refused.saturating_add(1);
         assert_eq!(rt; keeper.faults(), refused);
-        let after = answers(alloc, &mut keeper, &ASKED)?;
-        assert_eq!(rt; after.as_str(), before.as_str());
+        answers_as(rt, alloc, keeper, before.as_str())?;
     }
-    assert_eq!(rt; keeper.append(commit_of(alloc, "A", "t3", NEXT)?), Ok(4));
+    Ok(())
+}
+
+fn answers_as<K: Keeper>(
+    rt: &impl Abort,
+    alloc: Global,
+    keeper: &mut K,
+    wanted: &str,
+) -> Result<(), Fail> {
+    let found = answers(alloc, keeper, &ASKED)?;
+    assert_eq!(rt; found.as_str(), wanted);
     Ok(())
 }

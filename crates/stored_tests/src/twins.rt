@@ -84,6 +84,18 @@ impl<K: Keeper + Drop> Twins<K> {
         Ok(())
     }
 
+    // Asks both about the edit, so many entries and the last of these.
+    fn compare_both(
+        &mut self,
+        rt: &impl Abort,
+        alloc: Global,
+        upto: u64,
+        edit: &Edit,
+    ) -> Result<(), Fail> {
+        self.compare(rt, upto, edit)?;
+        self.compare_entry(rt, alloc, upto)
+    }
+
     // Compares the entries as they are printed.
     fn compare_entry(&mut self, rt: &impl Abort, alloc: Global, n: u64) -> Result<(), Fail> {
         let kept = self.keeper.entry(n)?;
@@ -127,8 +139,7 @@ fn random_call<K: Keeper + Drop>(
         _ => {
             let mut twins = twins;
             let upto = u64::from(draws.next_u32()) % (twins.feed.len() + 3);
-            twins.compare(rt, upto, &edit)?;
-            twins.compare_entry(rt, alloc, upto)?;
+            twins.compare_both(rt, alloc, upto, &edit)?;
             Ok(twins)
         }
     }
@@ -142,13 +153,22 @@ fn a_stored_history_answers_as_the_list(rt: HostRuntime) -> Result<(), Fail> {
     for _ in 0..600u32 {
         twins = random_call(&rt, alloc, twins, &mut draws)?;
     }
-    assert!(rt; 150 < twins.feed.len());
-    let last = twins.feed.len();
-    for n in 0..last + 2 {
-        let edit = random_edit(alloc, &mut draws)?;
-        twins.compare(&rt, n, &edit)?;
-        twins.compare_entry(&rt, alloc, n)?;
-    }
+    compare_all(&rt, alloc, &mut twins, &mut draws)?;
     assert_eq!(rt; twins.keeper.faults(), 0);
+    Ok(())
+}
+
+fn compare_all<K: Keeper + Drop>(
+    rt: &impl Abort,
+    alloc: Global,
+    twins: &mut Twins<K>,
+    draws: &mut Pcg32,
+) -> Result<(), Fail> {
+    let last = twins.feed.len();
+    assert!(rt; 150 < last);
+    for n in 0..last.saturating_add(2) {
+        let edit = random_edit(alloc, draws)?;
+        twins.compare_both(rt, alloc, n, &edit)?;
+    }
     Ok(())
 }

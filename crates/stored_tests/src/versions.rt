@@ -1,8 +1,8 @@
 // Files of version 1, of another version and of another program, and what is left of a file that is refused.
-use crate::setting::{Questions, answers, number_text, started};
+use crate::setting::{Questions, answers, new_keeper, number_text, started};
 use revision_keeper::{KeepFault, Keeper};
 use sqlite::types::ValueRef;
-use sqlite::{Connection, Error, MemStore, Row, params};
+use sqlite::{Alter, Connection, Error, MemStore, Row, params};
 use sqlite_keeper::SqliteKeeper;
 use std::alloc::Global;
 use std::process::Abort;
@@ -225,21 +225,38 @@ fn writes_line(
 
 #[test]
 fn a_file_of_version_1_answers_alike_before_and_after(rt: HostRuntime) -> Result<(), Fail> {
-    let alloc = rt.alloc();
-    let mut conn = version_1(alloc, HISTORY)?;
-    let before = answers_of_version_1(alloc, &mut conn)?;
+    let mut conn = version_1(rt.alloc(), HISTORY)?;
+    answers_before(&rt, rt.alloc(), &mut conn)?;
+    let mut keeper = started(rt.alloc(), conn)?;
+    answers_after(&rt, rt.alloc(), &mut keeper)?;
+    is_brought_over(&rt, &mut keeper.into_opened()?)
+}
+
+fn answers_before(
+    rt: &impl Abort,
+    alloc: Global,
+    conn: &mut Connection<MemStore>,
+) -> Result<(), Fail> {
+    let before = answers_of_version_1(alloc, conn)?;
     assert_eq!(rt; before.as_str(), ANSWERS);
-    let mut keeper = started(alloc, conn)?;
-    let after = answers(alloc, &mut keeper, &ASKED)?;
+    Ok(())
+}
+
+fn answers_after<S: Alter + Drop>(
+    rt: &impl Abort,
+    alloc: Global,
+    keeper: &mut SqliteKeeper<S>,
+) -> Result<(), Fail> {
+    let after = answers(alloc, keeper, &ASKED)?;
     assert_eq!(rt; after.as_str(), ANSWERS);
     assert_eq!(rt; keeper.faults(), 0);
-    let mut conn = keeper.into_opened()?;
+    Ok(())
+}
+
+fn is_brought_over(rt: &impl Abort, conn: &mut Connection<MemStore>) -> Result<(), Fail> {
+    assert_eq!(rt; number_of(conn, "SELECT version FROM farm", &[])?, Some(2));
     assert_eq!(rt;
-        number_of(&mut conn, "SELECT version FROM farm", &[])?,
-        Some(2)
-    );
-    assert_eq!(rt;
-        number_of(&mut conn, "SELECT count(*) FROM revision", &[])?,
+        number_of(conn, "SELECT count(*) FROM revision", &[])?,
         Some(0)
     );
     Ok(())
@@ -247,13 +264,13 @@ fn a_file_of_version_1_answers_alike_before_and_after(rt: HostRuntime) -> Result
 
 #[test]
 fn a_new_file_is_of_version_2(rt: HostRuntime) -> Result<(), Fail> {
-    let alloc = rt.alloc();
-    let mut conn = started(alloc, Connection::open_in_memory(alloc)?)?.into_opened()?;
-    assert_eq!(rt;
-        number_of(&mut conn, "SELECT version FROM farm", &[])?,
-        Some(2)
-    );
-    assert_eq!(rt; tables_named(&mut conn, "revision")?, 0);
+    let mut conn = new_keeper(rt.alloc())?.into_opened()?;
+    is_new(&rt, &mut conn)
+}
+
+fn is_new(rt: &impl Abort, conn: &mut Connection<MemStore>) -> Result<(), Fail> {
+    assert_eq!(rt; number_of(conn, "SELECT version FROM farm", &[])?, Some(2));
+    assert_eq!(rt; tables_named(conn, "revision")?, 0);
     Ok(())
 }
 
@@ -269,13 +286,17 @@ fn tables_named(conn: &mut Connection<MemStore>, name: &str) -> Result<u64, Fail
 // More commits of version 1 on one title than a migration reads at a time, with one value of the commit `n` changed.
 fn many_commits(alloc: Global, change: &str) -> Result<Connection<MemStore>, Fail> {
     let mut conn = version_1(alloc, "")?;
-    for n in 1..301i64 {
-        let token = format!(in alloc; "t{n}")?;
-        put_entry(&mut conn, n)?;
-        put_revision(&mut conn, n, token.as_str())?;
-    }
+    put_commits(alloc, &mut conn)?;
     conn.execute_batch(change)?;
     Ok(conn)
+}
+
+fn put_commits(alloc: Global, conn: &mut Connection<MemStore>) -> Result<(), Fail> {
+    for n in 1..301i64 {
+        put_entry(conn, n)?;
+        put_revision(conn, n, format!(in alloc; "t{n}")?.as_str())?;
+    }
+    Ok(())
 }
 
 fn put_entry(conn: &mut Connection<MemStore>, n: i64) -> Result<usize, Error> {
@@ -292,16 +313,18 @@ fn put_revision(conn: &mut Connection<MemStore>, n: i64, token: &str) -> Result<
 
 #[test]
 fn a_migration_goes_on_past_the_first_rows(rt: HostRuntime) -> Result<(), Fail> {
-    let alloc = rt.alloc();
-    let mut keeper = started(alloc, many_commits(alloc, "")?)?;
+    let mut keeper = started(rt.alloc(), many_commits(rt.alloc(), "")?)?;
     assert_eq!(rt; keeper.len()?, 300);
-    let mut conn = keeper.into_opened()?;
+    has_300_on_one_title(&rt, &mut keeper.into_opened()?)
+}
+
+fn has_300_on_one_title(rt: &impl Abort, conn: &mut Connection<MemStore>) -> Result<(), Fail> {
     assert_eq!(rt;
-        number_of(&mut conn, "SELECT count(*) FROM change", &[])?,
+        number_of(conn, "SELECT count(*) FROM change", &[])?,
         Some(300)
     );
     assert_eq!(rt;
-        number_of(&mut conn, "SELECT count(*) FROM title", &[])?,
+        number_of(conn, "SELECT count(*) FROM title", &[])?,
         Some(1)
     );
     Ok(())
@@ -334,28 +357,43 @@ fn stays_of_version_1(
 
 #[test]
 fn a_refused_migration_leaves_version_1(rt: HostRuntime) -> Result<(), Fail> {
-    let alloc = rt.alloc();
     for change in REFUSED {
-        let mut conn = many_commits(alloc, change)?;
-        let commits = number_of(&mut conn, "SELECT count(*) FROM revision", &[])?.unwrap_or(0);
-        let mut keeper = SqliteKeeper::new(alloc, Ok(conn));
-        assert_eq!(rt; keeper.start(), Err(KeepFault::Fault), "{change}");
-        assert_eq!(rt; keeper.len(), Err(KeepFault::Fault));
-        assert_eq!(rt; keeper.faults(), 2);
-        stays_of_version_1(&rt, &mut keeper.into_opened()?, commits)?;
+        let conn = many_commits(rt.alloc(), change)?;
+        is_refused(&rt, rt.alloc(), conn, change)?;
     }
     Ok(())
 }
 
+fn is_refused(
+    rt: &impl Abort,
+    alloc: Global,
+    conn: Connection<MemStore>,
+    change: &str,
+) -> Result<(), Fail> {
+    let mut conn = conn;
+    let commits = number_of(&mut conn, "SELECT count(*) FROM revision", &[])?.unwrap_or(0);
+    let mut keeper = SqliteKeeper::new(alloc, Ok(conn));
+    assert_eq!(rt; keeper.start(), Err(KeepFault::Fault), "{change}");
+    assert_eq!(rt; keeper.len(), Err(KeepFault::Fault));
+    assert_eq!(rt; keeper.faults(), 2);
+    stays_of_version_1(rt, &mut keeper.into_opened()?, commits)
+}
+
 #[test]
 fn a_file_of_another_program_is_refused(rt: HostRuntime) -> Result<(), Fail> {
-    let alloc = rt.alloc();
-    let mut conn = Connection::open_in_memory(alloc)?;
-    conn.execute_batch("CREATE TABLE note (id INTEGER PRIMARY KEY, body TEXT)")?;
-    let mut keeper = SqliteKeeper::new(alloc, Ok(conn));
+    let mut keeper = SqliteKeeper::new(rt.alloc(), Ok(of_another_program(rt.alloc())?));
     assert_eq!(rt; keeper.start(), Err(KeepFault::Fault));
     assert_eq!(rt; keeper.faults(), 1);
-    let mut conn = keeper.into_opened()?;
-    assert_eq!(rt; tables_named(&mut conn, "farm")?, 0);
+    has_no_farm(&rt, &mut keeper.into_opened()?)
+}
+
+fn of_another_program(alloc: Global) -> Result<Connection<MemStore>, Fail> {
+    let mut conn = Connection::open_in_memory(alloc)?;
+    conn.execute_batch("CREATE TABLE note (id INTEGER PRIMARY KEY, body TEXT)")?;
+    Ok(conn)
+}
+
+fn has_no_farm(rt: &impl Abort, conn: &mut Connection<MemStore>) -> Result<(), Fail> {
+    assert_eq!(rt; tables_named(conn, "farm")?, 0);
     Ok(())
 }
