@@ -1,9 +1,12 @@
 // Layouts, histories that are there already, and keepers that fail.
 use crate::failing_keeper::FailingKeeper;
-use crate::setting::{always, both, door_of, end_by_layout, host_of, host_on, said};
-use farm_base::{Clock, MemClock};
+use crate::setting::{always, both, door_of, end_by_layout, host_of, host_on, keeper_after, said};
+use farm_base::{Clock, MemClock, MemDoor};
 use revision_keeper::{Keeper, MemKeeper};
+use std::alloc::Global;
+use std::process::Abort;
 use std::test::Fail;
+use std::thread::Threads;
 use wiki_host::{HostEnd, Hosted};
 
 const WHOLE: &str = "\
@@ -46,16 +49,22 @@ fn a_layout_is_refused_by_the_first_rule_that_it_breaks(rt: HostRuntime) -> Resu
 
 #[test]
 fn a_refused_layout_reads_no_clock_and_takes_no_connection(rt: HostRuntime) -> Result<(), Fail> {
-    let alloc = rt.alloc();
-    let mut door = door_of(alloc, "", "", 0)?;
-    let mut coming = Vec::new(alloc);
-    coming.push(both(7))?;
-    let mut clock = MemClock::new(coming, both(9));
-    let host = host_of(alloc, MemKeeper::new(alloc), "[home]\nslots = 1\n", 2)?;
-    let hosted = host_on(&rt, alloc, host, &mut door, &mut clock);
-    assert_eq!(rt; hosted.end, HostEnd::BadLayout { rule: 4 });
-    assert_eq!(rt; clock.readings().home.0, 7);
+    let mut door = door_of(rt.alloc(), "", "", 0)?;
+    reads_no_clock(&rt, rt.alloc(), &mut door)?;
     assert!(rt; door.returned(0).is_none());
+    Ok(())
+}
+
+fn reads_no_clock<R: Threads + Sync + Abort>(
+    rt: &R,
+    alloc: Global,
+    door: &mut MemDoor,
+) -> Result<(), Fail> {
+    let host = host_of(alloc, MemKeeper::new(alloc), "[home]\nslots = 1\n", 2)?;
+    let mut clock = MemClock::new([both(7)].to_vec(alloc)?, both(9));
+    let Hosted { end, .. } = host_on(rt, alloc, host, door, &mut clock);
+    assert_eq!(rt; end, HostEnd::BadLayout { rule: 4 });
+    assert_eq!(rt; clock.readings().home.0, 7);
     Ok(())
 }
 
@@ -70,32 +79,44 @@ const READING: &str = "GET /wiki/A HTTP/1.0\r\nHost: wiki.example\r\n\r\n";
 
 #[test]
 fn a_second_hosting_goes_on_with_the_history(rt: HostRuntime) -> Result<(), Fail> {
-    let alloc = rt.alloc();
-    let mut door = door_of(alloc, SAVING, "", 0)?;
-    let mut clock = always(alloc, 5_000);
-    let host = host_of(alloc, MemKeeper::new(alloc), "", 1)?;
-    let Hosted { keeper, .. } = host_on(&rt, alloc, host, &mut door, &mut clock);
-    let mut door = door_of(alloc, READING, "", 0)?;
-    let host = host_of(alloc, keeper, WHOLE, 1)?;
-    let hosted = host_on(&rt, alloc, host, &mut door, &mut clock);
-    assert_eq!(rt; hosted.end, HostEnd::Served { connections: 1 });
-    let text = said(alloc, &door, 0)?;
+    let mut door = door_of(rt.alloc(), READING, "", 0)?;
+    goes_on(&rt, rt.alloc(), &mut door)?;
+    let text = said(rt.alloc(), &door, 0)?;
     assert!(rt; text.as_str().ends_with("<h1>A</h1>\n<p>one</p>\n"));
+    Ok(())
+}
+
+fn goes_on<R: Threads + Sync + Abort>(
+    rt: &R,
+    alloc: Global,
+    door: &mut MemDoor,
+) -> Result<(), Fail> {
+    let host = host_of(alloc, keeper_after(rt, alloc, SAVING)?, WHOLE, 1)?;
+    let mut clock = always(alloc, 5_000);
+    let Hosted { end, .. } = host_on(rt, alloc, host, door, &mut clock);
+    assert_eq!(rt; end, HostEnd::Served { connections: 1 });
     Ok(())
 }
 
 #[test]
 fn a_keeper_that_fails_at_its_start_opens_nothing(rt: HostRuntime) -> Result<(), Fail> {
-    let alloc = rt.alloc();
-    let mut starts = Vec::new(alloc);
-    starts.push(1)?;
-    let mut door = door_of(alloc, READING, "", 0)?;
-    let mut clock = always(alloc, 5_000);
-    // The layout is a faulty one, and is not read.
-    let host = host_of(alloc, FailingKeeper::new(alloc, starts), "[home", 1)?;
-    let Hosted { keeper, end } = host_on(&rt, alloc, host, &mut door, &mut clock);
-    assert_eq!(rt; end, HostEnd::StoreFault);
+    let mut door = door_of(rt.alloc(), READING, "", 0)?;
+    opens_nothing(&rt, rt.alloc(), &mut door)?;
     assert!(rt; door.returned(0).is_none());
+    Ok(())
+}
+
+fn opens_nothing<R: Threads + Sync + Abort>(
+    rt: &R,
+    alloc: Global,
+    door: &mut MemDoor,
+) -> Result<(), Fail> {
+    let keeper = FailingKeeper::new(alloc, [1u64].to_vec(alloc)?);
+    // The layout is a faulty one, and is not read.
+    let host = host_of(alloc, keeper, "[home", 1)?;
+    let mut clock = always(alloc, 5_000);
+    let Hosted { keeper, end } = host_on(rt, alloc, host, door, &mut clock);
+    assert_eq!(rt; end, HostEnd::StoreFault);
     let mut keeper = keeper;
     assert!(rt; matches!(keeper.start(), Ok(())));
     Ok(())

@@ -3,6 +3,7 @@ use farm_base::{MemClock, MemConn, MemDoor, MemLots, Moment, Readings};
 use purge_relay::FarmWire;
 use revision_keeper::{Keeper, MemKeeper};
 use std::alloc::Global;
+use std::process::Abort;
 use std::str;
 use std::test::Fail;
 use std::thread::Threads;
@@ -68,6 +69,16 @@ pub fn host_on<R: Threads + Sync, K: Keeper + Drop>(
     serve_door(&(rt, alloc), host, door, clock, &mut lots, &mut wire)
 }
 
+/// Hosts so many connections of the door at 5,000 by the default layout, over an empty history; how that ended.
+pub fn end_at<R: Threads + Sync>(
+    rt: &R,
+    alloc: Global,
+    door: &mut MemDoor,
+    wanted: u64,
+) -> Result<HostEnd, Fail> {
+    end_by(rt, alloc, door, "", wanted)
+}
+
 /// How a hosting by this layout ended, over an empty history at 5,000, with two connections that ask for nothing.
 pub fn end_by_layout<R: Threads + Sync>(
     rt: &R,
@@ -75,10 +86,33 @@ pub fn end_by_layout<R: Threads + Sync>(
     layout: &str,
 ) -> Result<HostEnd, Fail> {
     let mut door = door_of(alloc, "", "", 0)?;
+    end_by(rt, alloc, &mut door, layout, 2)
+}
+
+fn end_by<R: Threads + Sync>(
+    rt: &R,
+    alloc: Global,
+    door: &mut MemDoor,
+    layout: &str,
+    wanted: u64,
+) -> Result<HostEnd, Fail> {
+    let host = host_of(alloc, MemKeeper::new(alloc), layout, wanted)?;
     let mut clock = always(alloc, 5_000);
-    let host = host_of(alloc, MemKeeper::new(alloc), layout, 2)?;
-    let Hosted { end, .. } = host_on(rt, alloc, host, &mut door, &mut clock);
+    let Hosted { end, .. } = host_on(rt, alloc, host, door, &mut clock);
     Ok(end)
+}
+
+/// The keeper of a hosting at 5,000 of one connection with this input.
+pub fn keeper_after<R: Threads + Sync>(
+    rt: &R,
+    alloc: Global,
+    input: &str,
+) -> Result<MemKeeper, Fail> {
+    let mut door = door_of(alloc, input, "", 0)?;
+    let host = host_of(alloc, MemKeeper::new(alloc), "", 1)?;
+    let mut clock = always(alloc, 5_000);
+    let Hosted { keeper, .. } = host_on(rt, alloc, host, &mut door, &mut clock);
+    Ok(keeper)
 }
 
 /// What was written over the connection that the door gave at this place, counted from 0, once it was handed back.
@@ -87,4 +121,17 @@ pub fn said(alloc: Global, door: &MemDoor, place: usize) -> Result<String, Fail>
         Some(conn) => Ok(String::from_str(alloc, str::from_utf8(conn.written())?)?),
         None => Err(Fail::new("it was not handed back")),
     }
+}
+
+/// This was written over the connection of this place, which was handed back.
+pub fn has_said(
+    rt: &impl Abort,
+    alloc: Global,
+    door: &MemDoor,
+    place: usize,
+    wanted: &str,
+) -> Result<(), Fail> {
+    let text = said(alloc, door, place)?;
+    assert_eq!(rt; text.as_str(), wanted);
+    Ok(())
 }

@@ -1,8 +1,11 @@
 // Connections that are served one after another, byte for byte, and handed back.
-use crate::setting::{always, both, door_of, host_of, host_on, said};
-use farm_base::MemClock;
+use crate::setting::{both, door_of, end_at, has_said, host_of, host_on, keeper_after, said};
+use farm_base::{MemClock, MemDoor};
 use revision_keeper::{Keeper, MemKeeper};
+use std::alloc::Global;
+use std::process::Abort;
 use std::test::Fail;
+use std::thread::Threads;
 use wiki_host::{HostEnd, Hosted};
 
 const SAVING: &str = "\
@@ -64,27 +67,27 @@ Connection: keep-alive\r
 
 #[test]
 fn an_edit_is_saved_and_its_page_is_seen(rt: HostRuntime) -> Result<(), Fail> {
-    let alloc = rt.alloc();
-    let input = format!(in alloc; "{SAVING}{READING}")?;
-    let mut door = door_of(alloc, &input, "", 0)?;
-    let mut clock = always(alloc, 5_000);
-    let host = host_of(alloc, MemKeeper::new(alloc), "", 1)?;
-    let hosted = host_on(&rt, alloc, host, &mut door, &mut clock);
-    assert_eq!(rt; hosted.end, HostEnd::Served { connections: 1 });
-    let wanted = format!(in alloc; "{SAVED}{READ}")?;
-    let text = said(alloc, &door, 0)?;
-    assert_eq!(rt; text.as_str(), wanted.as_str());
-    Ok(())
+    let input = format!(in rt.alloc(); "{SAVING}{READING}")?;
+    let wanted = format!(in rt.alloc(); "{SAVED}{READ}")?;
+    is_said(&rt, rt.alloc(), input.as_str(), wanted.as_str())
+}
+
+// The connection with this input is answered so.
+fn is_said<R: Threads + Sync + Abort>(
+    rt: &R,
+    alloc: Global,
+    input: &str,
+    wanted: &str,
+) -> Result<(), Fail> {
+    let mut door = door_of(alloc, input, "", 0)?;
+    let end = end_at(rt, alloc, &mut door, 1)?;
+    assert_eq!(rt; end, HostEnd::Served { connections: 1 });
+    has_said(rt, alloc, &door, 0, wanted)
 }
 
 #[test]
 fn the_keeper_is_given_back_with_all_that_was_saved(rt: HostRuntime) -> Result<(), Fail> {
-    let alloc = rt.alloc();
-    let mut door = door_of(alloc, SAVING, "", 0)?;
-    let mut clock = always(alloc, 5_000);
-    let host = host_of(alloc, MemKeeper::new(alloc), "", 1)?;
-    let Hosted { keeper, .. } = host_on(&rt, alloc, host, &mut door, &mut clock);
-    let mut keeper = keeper;
+    let mut keeper = keeper_after(&rt, rt.alloc(), SAVING)?;
     assert!(rt; matches!(keeper.len(), Ok(2)));
     Ok(())
 }
@@ -99,17 +102,11 @@ Cookie: cpPosIndex=1@5#00000000000000000000000000000001\r
 // The first connection's editor opens a second one at west's host: it sees the edit, of which west heard by the wire.
 #[test]
 fn a_session_is_kept_from_one_connection_to_the_next_in_west(rt: HostRuntime) -> Result<(), Fail> {
-    let alloc = rt.alloc();
-    let mut door = door_of(alloc, SAVING, IN_WEST, 0)?;
-    let mut clock = always(alloc, 5_000);
-    let host = host_of(alloc, MemKeeper::new(alloc), "", 2)?;
-    let hosted = host_on(&rt, alloc, host, &mut door, &mut clock);
-    assert_eq!(rt; hosted.end, HostEnd::Served { connections: 2 });
-    let first = said(alloc, &door, 0)?;
-    assert_eq!(rt; first.as_str(), SAVED);
-    let second = said(alloc, &door, 1)?;
-    assert_eq!(rt; second.as_str(), READ);
-    Ok(())
+    let mut door = door_of(rt.alloc(), SAVING, IN_WEST, 0)?;
+    let end = end_at(&rt, rt.alloc(), &mut door, 2)?;
+    assert_eq!(rt; end, HostEnd::Served { connections: 2 });
+    has_said(&rt, rt.alloc(), &door, 0, SAVED)?;
+    has_said(&rt, rt.alloc(), &door, 1, READ)
 }
 
 const PLAIN: &str = "\
@@ -148,19 +145,23 @@ Connection: keep-alive\r
 // The clock gives a reading for the opening, one for the first request, and one more for all after it.
 #[test]
 fn a_page_is_kept_for_the_next_request(rt: HostRuntime) -> Result<(), Fail> {
-    let alloc = rt.alloc();
-    let input = format!(in alloc; "{SAVING}{PLAIN}{PLAIN}")?;
-    let mut door = door_of(alloc, &input, "", 0)?;
-    let mut coming = Vec::new(alloc);
-    coming.push(both(5_000))?;
-    coming.push(both(5_000))?;
-    let mut clock = MemClock::new(coming, both(30_000));
+    let input = format!(in rt.alloc(); "{SAVING}{PLAIN}{PLAIN}")?;
+    let wanted = format!(in rt.alloc(); "{SAVED}{CACHED}")?;
+    let mut door = door_of(rt.alloc(), input.as_str(), "", 0)?;
+    hosts_from_5_to_30_seconds(&rt, rt.alloc(), &mut door)?;
+    has_said(&rt, rt.alloc(), &door, 0, wanted.as_str())
+}
+
+fn hosts_from_5_to_30_seconds<R: Threads + Sync + Abort>(
+    rt: &R,
+    alloc: Global,
+    door: &mut MemDoor,
+) -> Result<(), Fail> {
     let host = host_of(alloc, MemKeeper::new(alloc), "", 1)?;
-    let hosted = host_on(&rt, alloc, host, &mut door, &mut clock);
-    assert_eq!(rt; hosted.end, HostEnd::Served { connections: 1 });
-    let wanted = format!(in alloc; "{SAVED}{CACHED}")?;
-    let text = said(alloc, &door, 0)?;
-    assert_eq!(rt; text.as_str(), wanted.as_str());
+    let coming = [both(5_000), both(5_000)].to_vec(alloc)?;
+    let mut clock = MemClock::new(coming, both(30_000));
+    let Hosted { end, .. } = host_on(rt, alloc, host, door, &mut clock);
+    assert_eq!(rt; end, HostEnd::Served { connections: 1 });
     Ok(())
 }
 
@@ -187,13 +188,10 @@ Host: wiki.example\r
 
 #[test]
 fn templates_hold_templates_from_the_first_connection_on(rt: HostRuntime) -> Result<(), Fail> {
-    let alloc = rt.alloc();
-    let mut door = door_of(alloc, NESTED, "", 0)?;
-    let mut clock = always(alloc, 5_000);
-    let host = host_of(alloc, MemKeeper::new(alloc), "", 1)?;
-    let hosted = host_on(&rt, alloc, host, &mut door, &mut clock);
-    assert_eq!(rt; hosted.end, HostEnd::Served { connections: 1 });
-    let text = said(alloc, &door, 0)?;
+    let mut door = door_of(rt.alloc(), NESTED, "", 0)?;
+    let end = end_at(&rt, rt.alloc(), &mut door, 1)?;
+    assert_eq!(rt; end, HostEnd::Served { connections: 1 });
+    let text = said(rt.alloc(), &door, 0)?;
     assert!(rt; text.as_str().ends_with("<h1>P</h1>\n<p>two x</p>\n"));
     Ok(())
 }
