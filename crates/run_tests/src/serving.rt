@@ -75,12 +75,12 @@ fn outcome_on<R: Threads + Sync, K: Keeper + Drop>(
         ..
     } = outside;
     match keeper {
-        Some(_) => outcome(alloc, status, &sink, door),
+        Some(_) => ended(alloc, status, &sink, door),
         None => Err(Fail::new("the keeper was not given back")),
     }
 }
 
-fn outcome(alloc: Global, status: Status, sink: &MemSink, door: MemDoor) -> Result<Outcome, Fail> {
+fn ended(alloc: Global, status: Status, sink: &MemSink, door: MemDoor) -> Result<Outcome, Fail> {
     let text = text_of(alloc, sink)?;
     Ok(Outcome { status, text, door })
 }
