@@ -4,8 +4,10 @@ use crate::timed::{Seen, Timed};
 use farm_base::Moment;
 use slot_cache::{SLOTS_MIN, SlotCache};
 use std::alloc::Global;
+use std::process::Abort;
 use std::test::Fail;
 use wan_cache::{Cause, Class, Put};
+use wiki_titles::Title;
 
 const FLOOR: Moment = Moment(13_000);
 
@@ -48,16 +50,25 @@ fn a_purge_holds_off_the_titles_of_its_slot(rt: HostRuntime) -> Result<(), Fail>
 
 #[test]
 fn a_value_is_shown_for_its_own_title_alone(rt: HostRuntime) -> Result<(), Fail> {
-    let alloc = rt.alloc();
-    let first = title_named(alloc, FIRST)?;
-    let neighbor = title_named(alloc, NEIGHBOR)?;
-    let mut cache = small_cache(alloc)?;
-    assert_eq!(rt; cache.put(alloc, &first, 1, false)?, Put::Main);
-    assert_eq!(rt; cache.look(&first, 1), Seen::Hit(1));
-    assert_eq!(rt; cache.look(&neighbor, 0), Seen::Miss(Cause::Absent));
-    assert_eq!(rt; cache.put(alloc, &neighbor, 2, false)?, Put::Main);
-    assert_eq!(rt; cache.look(&neighbor, 0), Seen::Hit(2));
-    assert_eq!(rt; cache.look(&first, 0), Seen::Miss(Cause::Absent));
+    let first = title_named(rt.alloc(), FIRST)?;
+    let neighbor = title_named(rt.alloc(), NEIGHBOR)?;
+    let mut cache = small_cache(rt.alloc())?;
+    shows_each_alone(&rt, rt.alloc(), &mut cache, &first, &neighbor)
+}
+
+fn shows_each_alone(
+    rt: &impl Abort,
+    alloc: Global,
+    cache: &mut Timed<SlotCache<u64>>,
+    first: &Title,
+    neighbor: &Title,
+) -> Result<(), Fail> {
+    assert_eq!(rt; cache.put(alloc, first, 1, false)?, Put::Main);
+    assert_eq!(rt; cache.look(first, 1), Seen::Hit(1));
+    assert_eq!(rt; cache.look(neighbor, 0), Seen::Miss(Cause::Absent));
+    assert_eq!(rt; cache.put(alloc, neighbor, 2, false)?, Put::Main);
+    assert_eq!(rt; cache.look(neighbor, 0), Seen::Hit(2));
+    assert_eq!(rt; cache.look(first, 0), Seen::Miss(Cause::Absent));
     Ok(())
 }
 
@@ -67,12 +78,22 @@ fn an_interim_value_is_shown_for_its_own_title_alone(rt: HostRuntime) -> Result<
     let first = title_named(alloc, FIRST)?;
     let neighbor = title_named(alloc, NEIGHBOR)?;
     let mut cache = small_cache(alloc)?;
+    shows_interim_alone(&rt, alloc, &mut cache, &first, &neighbor)
+}
+
+fn shows_interim_alone(
+    rt: &impl Abort,
+    alloc: Global,
+    cache: &mut Timed<SlotCache<u64>>,
+    first: &Title,
+    neighbor: &Title,
+) -> Result<(), Fail> {
     cache.pass(2_000);
-    cache.purge(&first);
-    assert_eq!(rt; cache.put(alloc, &first, 1, false)?, Put::Interim);
-    assert_eq!(rt; cache.look(&first, 0), Seen::Interim(1));
+    cache.purge(first);
+    assert_eq!(rt; cache.put(alloc, first, 1, false)?, Put::Interim);
+    assert_eq!(rt; cache.look(first, 0), Seen::Interim(1));
     assert_eq!(rt;
-        cache.look(&neighbor, 0),
+        cache.look(neighbor, 0),
         Seen::Miss(Cause::Purged { floor: FLOOR })
     );
     Ok(())

@@ -3,8 +3,11 @@ use crate::crew::Crew;
 use crate::setting::title_named;
 use crate::timed::Seen;
 use farm_base::Moment;
+use std::alloc::Global;
+use std::process::Abort;
 use std::test::Fail;
 use wan_cache::{Cause, Put};
+use wiki_titles::Title;
 
 const FLOOR: Moment = Moment(13_000);
 
@@ -51,43 +54,68 @@ fn titles_of_one_slot_share_their_floor_among_seats(rt: HostRuntime) -> Result<(
 
 #[test]
 fn what_a_seat_put_another_finds(rt: HostRuntime) -> Result<(), Fail> {
-    let alloc = rt.alloc();
-    let first = title_named(alloc, FIRST)?;
-    let neighbor = title_named(alloc, NEIGHBOR)?;
+    let first = title_named(rt.alloc(), FIRST)?;
+    let neighbor = title_named(rt.alloc(), NEIGHBOR)?;
+    finds(&rt, rt.alloc(), &first, &neighbor)
+}
+
+fn finds(rt: &impl Abort, alloc: Global, first: &Title, neighbor: &Title) -> Result<(), Fail> {
     let mut crew = Crew::new(alloc, 3)?;
     crew.pass(2_000);
-    assert_eq!(rt; crew.put(alloc, 0, &first, 7, false)?, Put::Main);
-    assert_eq!(rt; crew.look(1, &first), Seen::Hit(7));
-    assert_eq!(rt; crew.look(2, &neighbor), Seen::Miss(Cause::Absent));
+    puts(rt, alloc, &mut crew, 0, first, Put::Main)?;
+    assert_eq!(rt; crew.look(1, first), Seen::Hit(7));
+    assert_eq!(rt; crew.look(2, neighbor), Seen::Miss(Cause::Absent));
     let cache = crew.close();
-    assert_eq!(rt; cache.look(&first, 0), Seen::Hit(7));
-    assert_eq!(rt; cache.look(&neighbor, 0), Seen::Miss(Cause::Absent));
+    assert_eq!(rt; cache.look(first, 0), Seen::Hit(7));
+    assert_eq!(rt; cache.look(neighbor, 0), Seen::Miss(Cause::Absent));
+    Ok(())
+}
+
+// A seat puts a page of seven entries there, with this answer.
+fn puts(
+    rt: &impl Abort,
+    alloc: Global,
+    crew: &mut Crew,
+    seat: usize,
+    title: &Title,
+    wanted: Put,
+) -> Result<(), Fail> {
+    assert_eq!(rt; crew.put(alloc, seat, title, 7, false)?, wanted);
     Ok(())
 }
 
 #[test]
 fn a_purge_ends_the_value_that_another_seat_put(rt: HostRuntime) -> Result<(), Fail> {
-    let alloc = rt.alloc();
-    let first = title_named(alloc, FIRST)?;
-    let mut crew = Crew::new(alloc, 2)?;
-    assert_eq!(rt; crew.put(alloc, 0, &first, 7, false)?, Put::Main);
-    crew.pass(2_000);
-    crew.purge(1, &first);
-    assert_eq!(rt;
-        crew.look(0, &first),
-        Seen::Miss(Cause::Purged { floor: FLOOR })
-    );
-    assert_eq!(rt; crew.put(alloc, 0, &first, 8, false)?, Put::Interim);
-    assert_eq!(rt;
-        crew.put(alloc, 1, &first, 9, true)?,
-        Put::Held { until: FLOOR }
-    );
-    assert_eq!(rt; crew.look(1, &first), Seen::Interim(8));
+    let first = title_named(rt.alloc(), FIRST)?;
+    let mut crew = Crew::new(rt.alloc(), 2)?;
+    puts_around_a_purge(&rt, rt.alloc(), &mut crew, &first)?;
     let mut cache = crew.close();
     assert_eq!(rt; cache.look(&first, 0), Seen::Interim(8));
     // When the hold-off is over, the main value from before the purge is gone.
     cache.pass(11_000);
     assert_eq!(rt; cache.look(&first, 0), Seen::Miss(Cause::Absent));
+    Ok(())
+}
+
+fn puts_around_a_purge(
+    rt: &impl Abort,
+    alloc: Global,
+    crew: &mut Crew,
+    first: &Title,
+) -> Result<(), Fail> {
+    puts(rt, alloc, crew, 0, first, Put::Main)?;
+    crew.pass(2_000);
+    crew.purge(1, first);
+    assert_eq!(rt;
+        crew.look(0, first),
+        Seen::Miss(Cause::Purged { floor: FLOOR })
+    );
+    assert_eq!(rt; crew.put(alloc, 0, first, 8, false)?, Put::Interim);
+    assert_eq!(rt;
+        crew.put(alloc, 1, first, 9, true)?,
+        Put::Held { until: FLOOR }
+    );
+    assert_eq!(rt; crew.look(1, first), Seen::Interim(8));
     Ok(())
 }
 

@@ -2,7 +2,10 @@
 use crate::failing_keeper::FailingKeeper;
 use crate::setting::{Given, assert_report_on, drill_of, outcome_of, outcome_on, words_of};
 use revision_keeper::{Keeper, MemKeeper};
+use std::alloc::Global;
+use std::process::Abort;
 use std::test::Fail;
+use std::thread::Threads;
 use wiki_cli::Status;
 
 #[test]
@@ -92,8 +95,6 @@ const ON_ONE_ENTRY: [(&[&str], &[u8], &[u64], &str, Status); 4] = [
 
 #[test]
 fn nothing_is_run_on_a_history_that_has_entries(rt: HostRuntime) -> Result<(), Fail> {
-    let alloc = rt.alloc();
-    let mut keeper = outcome_of(&rt, alloc, drill_of(b"beat\nend\n"))?.keeper;
     for (words, input, reads, text, status) in ON_ONE_ENTRY {
         let given = Given {
             words,
@@ -101,12 +102,25 @@ fn nothing_is_run_on_a_history_that_has_entries(rt: HostRuntime) -> Result<(), F
             reads,
             writes: &[],
         };
-        let found = outcome_on(&rt, alloc, keeper, given)?;
-        assert_eq!(rt; found.text.as_str(), text);
-        assert_eq!(rt; found.status, status);
-        keeper = found.keeper;
-        assert_eq!(rt; keeper.len()?, 1);
+        let keeper = outcome_of(&rt, rt.alloc(), drill_of(b"beat\nend\n"))?.keeper;
+        is_not_run(&rt, rt.alloc(), keeper, given, text, status)?;
     }
+    Ok(())
+}
+
+// The run writes this text, ends so, and leaves the one entry.
+fn is_not_run<R: Abort + Threads + Sync, K: Keeper + Drop>(
+    rt: &R,
+    alloc: Global,
+    keeper: K,
+    given: Given<'_>,
+    text: &str,
+    status: Status,
+) -> Result<(), Fail> {
+    let mut found = outcome_on(rt, alloc, keeper, given)?;
+    assert_eq!(rt; found.text.as_str(), text);
+    assert_eq!(rt; found.status, status);
+    assert_eq!(rt; found.keeper.len()?, 1);
     Ok(())
 }
 

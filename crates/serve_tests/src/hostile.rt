@@ -1,5 +1,6 @@
 // Input that is cut, refused or too large, and calls of a connection that fail.
 use crate::setting::{Talked, conn_failing, serve_new, talk, written};
+use farm_base::MemConn;
 use std::alloc::Global;
 use std::process::Abort;
 use std::test::Fail;
@@ -94,24 +95,32 @@ fn is_answered_between<R: AllocGlobal + Threads + Sync + Abort>(
 
 #[test]
 fn a_write_that_fails_ends_the_connection(rt: HostRuntime) -> Result<(), Fail> {
-    let mut writes = Vec::new(rt.alloc());
-    writes.push(1)?;
     let input = b"GET /wiki/A HTTP/1.1\r\nHost: a\r\n\r\n";
+    let writes = [1u64].to_vec(rt.alloc())?;
     let mut conn = conn_failing(rt.alloc(), input, 65_536, Vec::new(rt.alloc()), writes)?;
-    let end = serve_new(&rt, &mut conn)?;
-    assert_eq!(rt; written(rt.alloc(), &conn)?.as_str(), "");
-    assert_eq!(rt; end, ConnEnd::WriteFault);
+    ends(&rt, rt.alloc(), &mut conn, "", ConnEnd::WriteFault)
+}
+
+// What is written over the connection ends so, and so does the connection.
+fn ends<R: AllocGlobal + Threads + Sync + Abort>(
+    rt: &R,
+    alloc: Global,
+    conn: &mut MemConn,
+    last: &str,
+    wanted: ConnEnd,
+) -> Result<(), Fail> {
+    let end = serve_new(rt, conn)?;
+    assert_eq!(rt; end, wanted);
+    let text = written(alloc, conn)?;
+    assert!(rt; text.as_str().ends_with(last));
+    assert_eq!(rt; text.as_str() == "", last == "");
     Ok(())
 }
 
 #[test]
 fn a_read_that_fails_ends_the_connection(rt: HostRuntime) -> Result<(), Fail> {
-    let mut reads = Vec::new(rt.alloc());
-    reads.push(2)?;
     let input = b"GET /nowhere HTTP/1.1\r\nHost: a\r\n\r\n";
+    let reads = [2u64].to_vec(rt.alloc())?;
     let mut conn = conn_failing(rt.alloc(), input, 65_536, reads, Vec::new(rt.alloc()))?;
-    let end = serve_new(&rt, &mut conn)?;
-    assert!(rt; written(rt.alloc(), &conn)?.as_str().ends_with("no-route\n"));
-    assert_eq!(rt; end, ConnEnd::ReadFault);
-    Ok(())
+    ends(&rt, rt.alloc(), &mut conn, "no-route\n", ConnEnd::ReadFault)
 }

@@ -318,8 +318,13 @@ pub fn said_by<R: AllocGlobal + Threads + Sync, K: Keeper, W: Wire, C: Clock>(
     input: &str,
 ) -> Result<String, Fail> {
     let mut conn = conn_of(rt.alloc(), input.as_bytes(), 65_536)?;
-    match serve_by(rt, served, &mut conn, wire, clock)? {
-        ConnEnd::Closed => written(rt.alloc(), &conn),
+    is_closed(serve_by(rt, served, &mut conn, wire, clock)?)?;
+    written(rt.alloc(), &conn)
+}
+
+fn is_closed(end: ConnEnd) -> Result<(), Fail> {
+    match end {
+        ConnEnd::Closed => Ok(()),
         _ => Err(Fail::new("the connection was not closed")),
     }
 }

@@ -57,9 +57,13 @@ fn answers_as_written<K: Keeper>(
 }
 
 #[test]
-fn both_keepers_answer_as_is_written_here(rt: HostRuntime) -> Result<(), Fail> {
+fn a_keeper_in_a_database_answers_as_is_written_here(rt: HostRuntime) -> Result<(), Fail> {
     let mut stored = stored_two(rt.alloc())?;
-    answers_without_fault(&rt, rt.alloc(), &mut stored)?;
+    answers_without_fault(&rt, rt.alloc(), &mut stored)
+}
+
+#[test]
+fn a_keeper_in_memory_answers_the_same(rt: HostRuntime) -> Result<(), Fail> {
     let mut in_memory = two_in_memory(rt.alloc())?;
     answers_as_written(&rt, rt.alloc(), &mut in_memory)
 }
@@ -152,12 +156,23 @@ fn appends_by_turns<S: Alter + Drop>(
     let mut number = 0u64;
     for (client, token, count) in BY_TURNS {
         let edit = edit_by(alloc, client, token)?;
-        asks(rt, keeper, &edit, number, None)?;
         number = number.saturating_add(1);
-        assert_eq!(rt; keeper.append(commit_of(&edit, number, count)?)?, number);
-        asks(rt, keeper, &edit, number, Some(count))?;
+        appends(rt, keeper, &edit, number, count)?;
     }
     Ok(())
+}
+
+// The edit's commit is asked for, appended as this entry, and asked for again.
+fn appends<S: Alter + Drop>(
+    rt: &impl Abort,
+    keeper: &mut SqliteKeeper<S>,
+    edit: &Edit,
+    number: u64,
+    count: u64,
+) -> Result<(), Fail> {
+    asks(rt, keeper, edit, number.saturating_sub(1), None)?;
+    assert_eq!(rt; keeper.append(commit_of(edit, number, count)?)?, number);
+    asks(rt, keeper, edit, number, Some(count))
 }
 
 // Client 1 edits `A`, and client 2 edits `B`.

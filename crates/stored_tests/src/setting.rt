@@ -135,24 +135,53 @@ pub fn answers<K: Keeper>(
     keeper: &mut K,
     asked: &Questions<'_>,
 ) -> Result<String, Fail> {
-    let mut made = String::new(alloc);
     let length = keeper.len()?;
-    made.push_str(format!(in alloc; "len {length}\n")?.as_str())?;
+    let mut made = format!(in alloc; "len {length}\n")?;
+    push_entries(alloc, &mut made, keeper, asked)?;
+    push_latest(alloc, &mut made, keeper, asked)?;
+    push_clients(alloc, &mut made, keeper, asked)?;
+    Ok(made)
+}
+
+fn push_entries<K: Keeper>(
+    alloc: Global,
+    made: &mut String,
+    keeper: &mut K,
+    asked: &Questions<'_>,
+) -> Result<(), Fail> {
     for n in 0..asked.upto.saturating_add(2) {
         made.push_str(entry_line(alloc, keeper, n)?.as_str())?;
     }
+    Ok(())
+}
+
+fn push_latest<K: Keeper>(
+    alloc: Global,
+    made: &mut String,
+    keeper: &mut K,
+    asked: &Questions<'_>,
+) -> Result<(), Fail> {
     for title in asked.titles {
         for upto in 0..asked.upto.saturating_add(2) {
             made.push_str(latest_line(alloc, keeper, title, upto)?.as_str())?;
         }
     }
+    Ok(())
+}
+
+fn push_clients<K: Keeper>(
+    alloc: Global,
+    made: &mut String,
+    keeper: &mut K,
+    asked: &Questions<'_>,
+) -> Result<(), Fail> {
     for client in asked.clients {
         for token in asked.tokens {
             made.push_str(token_line(alloc, keeper, *client, token)?.as_str())?;
         }
         made.push_str(writes_line(alloc, keeper, *client)?.as_str())?;
     }
-    Ok(made)
+    Ok(())
 }
 
 fn entry_line<K: Keeper>(alloc: Global, keeper: &mut K, n: u64) -> Result<String, Fail> {

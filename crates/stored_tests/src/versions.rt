@@ -104,40 +104,76 @@ fn number_of(
 
 // The answers of a file of version 1, by the statements of that version.
 fn answers_of_version_1(alloc: Global, conn: &mut Connection<MemStore>) -> Result<String, Fail> {
-    let mut made = String::new(alloc);
     let length = number_of(conn, "SELECT n FROM entry ORDER BY n DESC LIMIT 1", &[])?.unwrap_or(0);
-    made.push_str(format!(in alloc; "len {length}\n")?.as_str())?;
+    let mut made = format!(in alloc; "len {length}\n")?;
+    push_entries(alloc, &mut made, conn)?;
+    push_latest(alloc, &mut made, conn)?;
+    push_clients(alloc, &mut made, conn)?;
+    Ok(made)
+}
+
+fn push_entries(
+    alloc: Global,
+    made: &mut String,
+    conn: &mut Connection<MemStore>,
+) -> Result<(), Fail> {
     for n in 0..ASKED.upto.saturating_add(2) {
         made.push_str(entry_line(alloc, conn, n.cast_signed())?.as_str())?;
     }
+    Ok(())
+}
+
+fn push_latest(
+    alloc: Global,
+    made: &mut String,
+    conn: &mut Connection<MemStore>,
+) -> Result<(), Fail> {
     for title in ASKED.titles {
         for upto in 0..ASKED.upto.saturating_add(2) {
             made.push_str(latest_line(alloc, conn, title, upto.cast_signed())?.as_str())?;
         }
     }
+    Ok(())
+}
+
+fn push_clients(
+    alloc: Global,
+    made: &mut String,
+    conn: &mut Connection<MemStore>,
+) -> Result<(), Fail> {
     for client in ASKED.clients {
         for token in ASKED.tokens {
             made.push_str(token_line(alloc, conn, *client, token)?.as_str())?;
         }
         made.push_str(writes_line(alloc, conn, *client)?.as_str())?;
     }
-    Ok(made)
+    Ok(())
 }
 
 fn entry_line(alloc: Global, conn: &mut Connection<MemStore>, n: i64) -> Result<String, Fail> {
-    let Some(row) = entry_row(conn, n)? else {
-        return Ok(format!(in alloc; "entry {n}: none\n")?);
-    };
-    let at = row.get::<u64>(0)?;
-    let Some(row) = revision_row(conn, n)? else {
-        return Ok(format!(in alloc; "entry {n}: beat at {at}\n")?);
-    };
-    let commit = commit_text(alloc, &row, at)?;
-    Ok(format!(in alloc; "entry {n}: {commit}\n")?)
+    match stamp_at(conn, n)? {
+        Some(at) => {
+            let entry = entry_text(alloc, conn, n, at)?;
+            Ok(format!(in alloc; "entry {n}: {entry}\n")?)
+        }
+        None => Ok(format!(in alloc; "entry {n}: none\n")?),
+    }
 }
 
-fn entry_row(conn: &mut Connection<MemStore>, n: i64) -> Result<Option<Row>, Fail> {
-    row_of(conn, "SELECT stamp FROM entry WHERE n = ?1", params![n])
+fn stamp_at(conn: &mut Connection<MemStore>, n: i64) -> Result<Option<u64>, Fail> {
+    number_of(conn, "SELECT stamp FROM entry WHERE n = ?1", params![n])
+}
+
+fn entry_text(
+    alloc: Global,
+    conn: &mut Connection<MemStore>,
+    n: i64,
+    at: u64,
+) -> Result<String, Fail> {
+    match revision_row(conn, n)? {
+        Some(row) => commit_text(alloc, &row, at),
+        None => Ok(format!(in alloc; "beat at {at}")?),
+    }
 }
 
 fn revision_row(conn: &mut Connection<MemStore>, n: i64) -> Result<Option<Row>, Fail> {
@@ -210,17 +246,17 @@ fn writes_line(
     client: u64,
 ) -> Result<String, Fail> {
     let digits = format!(in alloc; "{client:032x}")?;
+    let (count, last) = count_and_last(conn, digits.as_str())?;
+    let at = stamp_at(conn, last)?.unwrap_or(0);
+    Ok(format!(in alloc; "client {client} wrote {count}, last {last} at {at}\n")?)
+}
+
+fn count_and_last(conn: &mut Connection<MemStore>, digits: &str) -> Result<(u64, i64), Fail> {
     let row = conn.query_row(
         "SELECT count(*), max(n) FROM revision WHERE client = ?1",
-        params![digits.as_str()],
+        params![digits],
     )?;
-    let count = row.get::<u64>(0)?;
-    let last = row.get::<Option<i64>>(1)?.unwrap_or(0);
-    let at = match entry_row(conn, last)? {
-        Some(row) => row.get::<u64>(0)?,
-        None => 0,
-    };
-    Ok(format!(in alloc; "client {client} wrote {count}, last {last} at {at}\n")?)
+    Ok((row.get::<u64>(0)?, row.get::<Option<i64>>(1)?.unwrap_or(0)))
 }
 
 #[test]
