@@ -1,2 +1,3 @@
 pub mod TableFault
 pub mod SqliteKeeper
+pub mod LastAnswers

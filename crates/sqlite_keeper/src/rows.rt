@@ -1,5 +1,5 @@
 // What stands in a row, each value tested as it comes in, and what may be written into one.
-ghost use Rattle.std.specs.Prelude.{◌≤◌, ◌<◌, ◌^◌, IfOk, IfSome};
+ghost use Rattle.std.specs.Prelude.{◌≡◌, ◌≤◌, ◌<◌, ◌^◌, IfOk, IfSome};
 ghost use Rattle.wiki_model.specs.Limits.{greatest_moment};
 ghost use Rattle.commit_feed.specs.AsModel.{entry_of};
 ghost use Rattle.revision_keeper.specs.Bounds.{IsSmall, AreSmall};
@@ -58,13 +58,18 @@ pub(crate) fn stamp_at(row: &Row, at: usize) -> Result<Moment, TableFault>
 
 /// A number, if it is below 2^63.
 fn small(n: u64) -> Result<u64, TableFault>
-    ensures { IfOk result (λ k. k < 2 ^ 63) }
+    ensures small { IfOk result (λ k. k < 2 ^ 63) }
+    ensures value { IfOk result (λ k. k ≡ n) }
 {
-    number_of(stored(n)?)
+    if i64::MAX.cast_unsigned() < n {
+        return Err(TableFault::Refused);
+    }
+    Ok(n)
 }
 
 fn small_stamp(stamp: Moment) -> Result<Moment, TableFault>
-    ensures { IfOk result (λ stamp. stamp ≤ greatest_moment) }
+    ensures small { IfOk result (λ again. again ≤ greatest_moment) }
+    ensures value { IfOk result (λ again. again ≡ stamp) }
 {
     if MOMENT_MAX < stamp.0 {
         return Err(TableFault::Refused);
@@ -74,7 +79,8 @@ fn small_stamp(stamp: Moment) -> Result<Moment, TableFault>
 
 /// A number that may be missing, if it is below 2^63.
 pub(crate) fn checked_number(found: Option<u64>) -> Result<Option<u64>, TableFault>
-    ensures { IfOk result (λ found. IfSome found (λ n. n < 2 ^ 63)) }
+    ensures small { IfOk result (λ again. IfSome again (λ n. n < 2 ^ 63)) }
+    ensures value { IfOk result (λ again. again ≡ found) }
 {
     match found {
         Some(n) => Ok(Some(small(n)?)),
@@ -84,7 +90,8 @@ pub(crate) fn checked_number(found: Option<u64>) -> Result<Option<u64>, TableFau
 
 /// What a client has committed, if its numbers are within their limits.
 pub(crate) fn checked_writes(writes: Writes) -> Result<Writes, TableFault>
-    ensures { IfOk result AreSmall }
+    ensures small { IfOk result AreSmall }
+    ensures value { IfOk result (λ again. again ≡ writes) }
 {
     let count = small(writes.count)?;
     let last = small(writes.last)?;
@@ -94,7 +101,8 @@ pub(crate) fn checked_writes(writes: Writes) -> Result<Writes, TableFault>
 
 /// An entry, if its numbers are within their limits.
 pub(crate) fn checked_entry(entry: Entry) -> Result<Entry, TableFault>
-    ensures { IfOk result (λ entry. IsSmall (entry_of entry)) }
+    ensures small { IfOk result (λ again. IsSmall (entry_of again)) }
+    ensures value { IfOk result (λ again. again ≡ entry) }
 {
     match entry {
         Entry::Beat { stamp } => Ok(Entry::Beat {

@@ -12,8 +12,8 @@ use sqlite::{Alter, Connection};
 use std::alloc::Global;
 use wiki_titles::{ClientId, Title, Token};
 
-/// The tables of a history. They have one writer, which owns the connection, so the length and what was answered last may
-/// be remembered.
+/// The tables of a history. They have one writer, which owns the connection, so the length and what was answered last
+/// may be remembered.
 #[derive(Drop)]
 pub(crate) struct Tables<S: Alter + Drop> {
     alloc: Global,

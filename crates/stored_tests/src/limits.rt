@@ -237,8 +237,8 @@ const NO_NUMBERS: [Numbers; 7] = [
     },
 ];
 
-// Entries that no row takes: a number or a stamp past its limit, a title's first commit again, a revision again, a later
-// one of a title without a first, and a token again.
+// Entries that no row takes: a number or a stamp past its limit, a title's first commit again, a revision again, a
+// later one of a title without a first, and a token again.
 fn refused_entries(alloc: Global) -> Result<Vec<Entry>, Fail> {
     let mut made = Vec::new(alloc);
     for numbers in NO_NUMBERS {
