@@ -97,7 +97,8 @@ impl LastAnswers {
 
     /// The number of the client's commit with the token, or that there is none; None if neither is remembered.
     pub(crate) fn by_token(&self, client: &ClientId, token: &Token) -> Option<Option<u64>>
-        ensures { IfSome result (λ n. self.now.token ≡ Some (record { client = client.now; token = token.now; n = n })) }
+        ensures { IfSome result (λ n.
+            self.now.token ≡ Some (record { client = client.now; token = token.now; n = n })) }
     {
         match &self.token {
             Some(known) if known.client == *client && known.token.text() == token.text() => Some(
